@@ -1,0 +1,5 @@
+pub mod Bits
+pub mod Tests
+pub mod Sets
+pub mod Keep
+pub mod Searches
