@@ -1,0 +1,4 @@
+pub mod Draws
+pub mod Faults
+pub mod Pairs
+pub mod Rows

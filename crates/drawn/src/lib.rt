@@ -1,0 +1,7 @@
+// Drawn orders: the order that presses use, drawn from pairs of roles.
+mod drawing;
+mod rows;
+
+pub use drawing::DrawFault;
+pub use rows::Drawn;
+pub use rows::DrawnOrder;
