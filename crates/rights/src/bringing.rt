@@ -14,9 +14,9 @@ fn brought_by(code: u32) -> u32
     ensures answer { λ r. ⌜ r ≡ brought code ⌝ }
 {
     let mut all = 0;
-    for right in 0..TABLE.len() {
+    for (right, row) in TABLE.iter().enumerate() {
         if (code >> right) % 2 == 1 {
-            all |= TABLE[right];
+            all |= *row;
         }
     }
     all
