@@ -58,10 +58,9 @@ fn grow(rows: &[u32; ROLES], a: u32, b: u32) -> [u32; ROLES]
 {
     let above = rows[b as usize];
     let mut grown = *rows;
-    for x in 0..ROLES {
-        let row = rows[x];
-        if (row >> a) % 2 == 1 {
-            grown[x] = row | above;
+    for (x, row) in rows.iter().enumerate() {
+        if (*row >> a) % 2 == 1 {
+            grown[x] = *row | above;
         }
     }
     grown
