@@ -1,4 +1,4 @@
--- An order as 32 rows of 32 bits: bit b of row a says that role a is at or below role b.
+-- An order as 32 rows: row a is the set of the roles that role a is at or below.
 use mathlib.Core.Bool.{Bool, _&&_}
 use mathlib.Core.List.{List}
 use Prim.Native.Nat.{ℕ}

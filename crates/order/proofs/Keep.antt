@@ -1,31 +1,17 @@
--- A set with one role more, and the set of the roles that pass a test.
+-- The set of the roles that pass a test.
 use mathlib.Core.Path.{_≡_, refl, sym, ap, subst, _∙_}
 use mathlib.Core.Bool.{Bool, true, false, _&&_, _||_, cond}
 use mathlib.Core.Logic.{⊎-elim}
-use Prim.Native.Nat.{ℕ, zero, suc, _+_, _*_, _%_, _^_, _<_, _≤_}
+use Prim.Native.Nat.{ℕ, zero, suc, _+_, _*_, _^_, _<_, _≤_}
 use native.Mathlib.Nat.{pow-suc}
 use native.Mathlib.Omega.{arith}
 use lib.Bits.{bitOr}
 use lib.Dec.{ltb, eqb}
-use Rattle.std.proofs.shelf.Bits.{one-shl, or-lt, pow-pos}
+use Rattle.std.proofs.shelf.Bits.{or-lt, pow-pos}
 use Rattle.std.proofs.shelf.Tests.{cases-bool, cases-lt, cases-order, lt-ltb, le-ltb, eq-eqb, ne-eqb, and-left, cond-true, cond-false}
-use Rattle.order.specs.RoleSets.{has, withRole, keptTo, kept}
+use Rattle.order.specs.RoleSets.{has, keptTo, kept}
 use Rattle.order.specs.SetLaws.{Membership}
 use Rattle.order.proofs.Bits.{has-insert, has-none, has-same, has-false-from}
-
-pub has-with : (set r : ℕ) → r < 64 → (x : ℕ) → has (withRole set r) x ≡ (has set x || eqb r x)
-unfolding withRole
-has-with set r h x = ap (λ (n : ℕ). has n x) (cond-true (ltb r 64) (bitOr set (2 ^ r)) set (lt-ltb r 64 h)) ∙ has-insert set r x
-
--- `set | 1 << r` at 64 bits
-pub with-is : (set r : ℕ) → r < 64 → bitOr set ((1 * 2 ^ r) % 2 ^ 64) ≡ withRole set r
-unfolding withRole
-with-is set r h =
-    ap (bitOr set) (one-shl r 64 h) ∙ sym (cond-true (ltb r 64) (bitOr set (2 ^ r)) set (lt-ltb r 64 h))
-
-pub with-none : (set r : ℕ) → 64 ≤ r → set ≡ withRole set r
-unfolding withRole
-with-none set r h = sym (cond-false (ltb r 64) (bitOr set (2 ^ r)) set (le-ltb r 64 h))
 
 -- ---- the roles that pass
 
@@ -102,7 +88,7 @@ has-kept p set small x =
 
 pub membership : Membership
 membership = record {
-  added = has-with;
+  added = has-insert;
   kept-roles = has-kept;
   kept-small = λ p set. kept-to-lt p set 64;
   equal = has-same 64;

@@ -60,7 +60,7 @@ module _ {count top : ℕ} {below : ℕ → ℕ → Bool} (laws : Lawful count t
   set-topped a x t h = single-to below a top (x, t, laws .topmost x h)
 
   pub opens-up : (set set′ roles : ℕ) → SetBelow below set′ set → Opens below set roles → Opens below set′ roles
-  opens-up set set′ roles p o = record { someone = o .someone; covered = set-trans set′ set roles p (o .covered) }
+  opens-up set set′ roles p o = (o .0, set-trans set′ set roles p (o .1))
 
   pub sets-ordered : SetsOrdered count top below
   sets-ordered = record {

@@ -5,7 +5,7 @@ use mathlib.Core.Logic.{⊎-elim}
 use Prim.Native.Nat.{ℕ, _^_, _<_}
 use lib.Dec.{eqb, ltb}
 use Rattle.std.specs.Orderings.{Decides}
-use Rattle.std.proofs.shelf.Ways.{decides-below-and, decides-below-or, decides-and, decides-not, decides-eqb, decides-ltb, decides-like}
+use Rattle.std.proofs.shelf.Ways.{decides-below-and, decides-below-or, decides-and, decides-not, decides-eqb, decides-ltb}
 use Rattle.std.proofs.shelf.Tests.{and-parts, and-from, or-cases, or-left, or-right, both-ways, cases-bool, false≢true, not-true, not-from-false}
 use Rattle.order.specs.RoleSets.{has, In, SomeBelow, SetBelow, Opens, InUse, every, some, someBelow, setBelow, opensTo, inUse}
 use Rattle.order.proofs.Bits.{has-below}
@@ -58,14 +58,11 @@ pub decides-not-zero : (n : ℕ) → Decides (not (eqb n 0)) (n ≡ 0 → ⊥)
 decides-not-zero n = decides-not (eqb n 0) (decides-eqb n 0)
 
 pub decides-opens : (below : ℕ → ℕ → Bool) (set roles : ℕ) → set < 2 ^ 64 → roles < 2 ^ 64 → Decides (opensTo below set roles) (Opens below set roles)
-unfolding opensTo
 decides-opens below set roles small-set small-roles =
-    decides-like _ (λ p. record { someone = p .0; covered = p .1 }) (λ o. (o .someone, o .covered))
-    (decides-and (not (eqb roles 0)) (setBelow below set roles) (decides-not-zero roles) (decides-set-below below set roles small-set small-roles))
+    decides-and (not (eqb roles 0)) (setBelow below set roles) (decides-not-zero roles) (decides-set-below below set roles small-set small-roles)
 
 pub decides-in-use : (count set : ℕ) → set < 2 ^ 64 → Decides (inUse count set) (InUse count set)
 unfolding inUse
 decides-in-use count set small =
-    decides-like _ (λ p. record { someone = p .0; roles = p .1 }) (λ u. (u .someone, u .roles))
-    (decides-and (not (eqb set 0)) (every (λ role. not (has set role) || ltb role count) 64) (decides-not-zero set)
-    (decides-each set (λ role. ltb role count) (λ role. role < count) small (λ role. decides-ltb role count)))
+    decides-and (not (eqb set 0)) (every (λ role. not (has set role) || ltb role count) 64) (decides-not-zero set)
+    (decides-each set (λ role. ltb role count) (λ role. role < count) small (λ role. decides-ltb role count))

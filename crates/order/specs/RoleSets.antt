@@ -28,14 +28,12 @@ abbrev pub SetBelow : (ℕ → ℕ → Bool) → ℕ → ℕ → Type 0
 SetBelow below a b = (role : ℕ) → In role b → SomeBelow below a role
 
 -- an edge with the set is open to the roles: there are some, and set ≤ roles
-pub record Opens (below : ℕ → ℕ → Bool) (set roles : ℕ) : Type 0 where
-  pub someone : roles ≡ 0 → ⊥
-  pub covered : SetBelow below set roles
+abbrev pub Opens : (ℕ → ℕ → Bool) → ℕ → ℕ → Type 0
+Opens below set roles = (roles ≡ 0 → ⊥) × SetBelow below set roles
 
 -- a set in use: not empty, and each of its roles is one of the first `count` codes
-pub record InUse (count set : ℕ) : Type 0 where
-  pub someone : set ≡ 0 → ⊥
-  pub roles : (role : ℕ) → In role set → role < count
+abbrev pub InUse : ℕ → ℕ → Type 0
+InUse count set = (set ≡ 0 → ⊥) × ((role : ℕ) → In role set → role < count)
 
 -- the lowest role of the set is taken out, and the rest stays
 pub record Lowest (set role rest : ℕ) : Type 0 where
@@ -66,7 +64,7 @@ someBelow below set role = some (λ x. has set x && below x role) 64
 unfoldable pub setBelow : (ℕ → ℕ → Bool) → ℕ → ℕ → Bool
 setBelow below a b = every (λ role. not (has b role) || someBelow below a role) 64
 
-unfoldable pub opensTo : (ℕ → ℕ → Bool) → ℕ → ℕ → Bool
+abbrev pub opensTo : (ℕ → ℕ → Bool) → ℕ → ℕ → Bool
 opensTo below set roles = not (eqb roles 0) && setBelow below set roles
 
 unfoldable pub inUse : ℕ → ℕ → Bool
@@ -74,9 +72,9 @@ inUse count set = not (eqb set 0) && every (λ role. not (has set role) || ltb r
 
 -- ---- sets made from sets
 
--- the set and one role more; no number of 64 bits has a role above 63
-unfoldable pub withRole : ℕ → ℕ → ℕ
-withRole set role = cond (ltb role 64) (bitOr set (2 ^ role)) set
+-- the set and one role more
+abbrev pub withRole : ℕ → ℕ → ℕ
+withRole set role = bitOr set (2 ^ role)
 
 -- those of the first n roles that are in the set and pass the test
 unfoldable pub keptTo : (ℕ → Bool) → ℕ → ℕ → ℕ

@@ -37,7 +37,7 @@ pub record TestsDecide (count : ℕ) (below : ℕ → ℕ → Bool) : Type 0 whe
 
 -- membership, whatever the order
 pub record Membership : Type 0 where
-  pub added : (set r : ℕ) → r < 64 → (x : ℕ) → has (withRole set r) x ≡ (has set x || eqb r x)
+  pub added : (set r x : ℕ) → has (withRole set r) x ≡ (has set x || eqb r x)
   pub kept-roles : (p : ℕ → Bool) (set : ℕ) → set < 2 ^ 64 → (x : ℕ) → has (kept p set) x ≡ (has set x && p x)
   pub kept-small : (p : ℕ → Bool) (set : ℕ) → kept p set < 2 ^ 64
   pub equal : (a b : ℕ) → a < 2 ^ 64 → b < 2 ^ 64 → ((x : ℕ) → x < 64 → has a x ≡ has b x) → a ≡ b

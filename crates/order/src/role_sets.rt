@@ -1,9 +1,9 @@
 // Role sets as numbers, and what they open.
 ghost use mathlib.Core.Path.{_≡_};
 ghost use mathlib.Core.Bool.{true};
-ghost use Prim.Native.Nat.{ℕ, _<_};
+ghost use Prim.Native.Nat.{_^_, _<_, _≤_};
 ghost use Rattle.std.specs.Orderings.{Decides};
-ghost use Rattle.order.specs.RoleSets.{has, SomeBelow, SetBelow, Opens, InUse, NextRole, someBelow, setBelow, opensTo, inUse, withRole};
+ghost use Rattle.order.specs.RoleSets.{has, SomeBelow, SetBelow, Opens, InUse, Lowest, NextRole, someBelow, setBelow, opensTo, inUse, withRole};
 ghost use Rattle.order.specs.SetLaws.{RoleSetLaws};
 use super::Order;
 
@@ -19,6 +19,15 @@ pub struct Roles {
     left: RoleSet,
 }
 
+// The lowest role of a set that has one, and the set without it.
+fn split_lowest(set: RoleSet) -> (Role, RoleSet)
+    requires { ⌜ 0 < set ⌝ }
+    ensures answer { λ r. ⌜ Lowest set (r .0) (r .1) ⌝ }
+    ensures falls { λ r. ⌜ r .1 < set ⌝ }
+{
+    (set.trailing_zeros(), set & (set - 1))
+}
+
 pub impl Iterator for Roles as RolesIterator {
     type Item = Role;
 
@@ -32,8 +41,8 @@ pub impl Iterator for Roles as RolesIterator {
         if self.left == 0 {
             return None;
         }
-        let role = self.left.trailing_zeros();
-        self.left &= self.left - 1;
+        let (role, rest) = split_lowest(self.left);
+        self.left = rest;
         Some(role)
     }
 }
@@ -44,17 +53,33 @@ pub fn roles_of(set: RoleSet) -> Roles
     Roles { left: set }
 }
 
+fn bit(set: RoleSet, role: Role) -> bool
+    requires { ⌜ role < 64 ⌝ }
+    ensures answer { λ r. ⌜ r ≡ has set role ⌝ }
+{
+    (set >> role) % 2 == 1
+}
+
+// The set of one role.
+fn single(role: Role) -> RoleSet
+    requires { ⌜ role < 64 ⌝ }
+    ensures answer { λ r. ⌜ r ≡ 2 ^ role ⌝ }
+{
+    1 << role
+}
+
 pub fn has_role(set: RoleSet, role: Role) -> bool
     ensures answer { λ r. ⌜ r ≡ has set role ⌝ }
 {
-    role < 64 && (set >> role) % 2 == 1
+    if role < 64 { bit(set, role) } else { false }
 }
 
-// The set with the role put in. No set of 64 bits has a role above 63, and none is put in.
+// The set with the role put in. A set has 64 places, so a code above 63 leaves it as it is.
 pub fn with_role(set: RoleSet, role: Role) -> RoleSet
-    ensures answer { λ r. ⌜ r ≡ withRole set role ⌝ }
+    ensures answer { λ r. ⌜ (role < 64 → r ≡ withRole set role) ⌝ }
+    ensures same { λ r. ⌜ (64 ≤ role → r ≡ set) ⌝ }
 {
-    if role < 64 { set | 1 << role } else { set }
+    if role < 64 { set | single(role) } else { set }
 }
 
 // Whether some role of the set is at or below the role. It asks the order at most once for each role of the set.
@@ -89,7 +114,11 @@ pub fn opens<O: Order>(order: &O, set: RoleSet, roles: RoleSet) -> bool
     ensures answer { λ r. ⌜ r ≡ opensTo (below (now (order .entry))) set roles ⌝ }
     ensures says { λ r. ⌜ Decides r (Opens (below (now (order .entry))) set roles) ⌝ }
 {
-    roles != 0 && set_below(order, set, roles)
+    if roles == 0 {
+        false
+    } else {
+        set_below(order, set, roles)
+    }
 }
 
 // Whether the set can stand in a table: it is not empty, and each of its roles is one of the order's.
@@ -113,8 +142,6 @@ pub fn holds_top<O: Order>(set: RoleSet) -> bool
 }
 
 // The laws of role sets that the layers above rest on, for every lawful order.
-pub fn role_sets_keep_their_laws() -> u8
+pub fn role_sets_keep_their_laws()
     ensures laws { λ _. ⌜ RoleSetLaws ⌝ }
-{
-    0
-}
+{}

@@ -1,25 +1,41 @@
 // Role a is at or below role b when all that a's rights bring is among what b's bring.
 ghost use mathlib.Core.Path.{_≡_};
 ghost use Rattle.rights.specs.Bringing.{brought, rightsBelow, Test-says-among};
+ghost use Prim.Native.Nat.{_<_};
 use order::Order;
+use order::Role;
+use order::RoleSet;
+use order::has_role;
+
+// A set of rights: bit i stands for right i, as in a role set.
+type RightSet = RoleSet;
 
 // Row i is the set of rights that right i brings.
-const TABLE: [u32; 6] = [1, 3, 5, 11, 21, 33];
+const TABLE: [RightSet; 6] = [1, 3, 5, 11, 21, 33];
 
 #[derive(Clone, Copy)]
 pub struct Rights;
 
 // All that the rights of the code bring.
-fn brought_by(code: u32) -> u32
+fn brought_by(code: Role) -> RightSet
     ensures answer { λ r. ⌜ r ≡ brought code ⌝ }
 {
     let mut all = 0;
     for (right, row) in TABLE.iter().enumerate() {
-        if (code >> right) % 2 == 1 {
+        if has_role(code as RightSet, right as u32) {
             all |= *row;
         }
     }
     all
+}
+
+// Whether all that a's rights bring is among what b's bring.
+fn among(a: Role, b: Role) -> bool
+    requires { ⌜ a < 64 ⌝ ∗ ⌜ b < 64 ⌝ }
+    ensures answer { λ r. ⌜ r ≡ rightsBelow a b ⌝ }
+{
+    let mine = brought_by(a);
+    mine & brought_by(b) == mine
 }
 
 pub impl Order for Rights as RightsOrder {
@@ -41,19 +57,12 @@ pub impl Order for Rights as RightsOrder {
         Self::TOP
     }
 
-    fn at_or_below(&self, a: u32, b: u32) -> bool {
-        if a < Self::COUNT && b < Self::COUNT {
-            let mine = brought_by(a);
-            mine & brought_by(b) == mine
-        } else {
-            false
-        }
+    fn at_or_below(&self, a: Role, b: Role) -> bool {
+        if a < 64 && b < 64 { among(a, b) } else { false }
     }
 }
 
 // The order's test says what the words say, for any two numbers.
-pub fn test_says_among() -> u8
+pub fn test_says_among()
     ensures law { λ _. ⌜ Test-says-among ⌝ }
-{
-    0
-}
+{}

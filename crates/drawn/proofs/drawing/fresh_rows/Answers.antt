@@ -1,12 +1,10 @@
-use mathlib.Core.Path.{ap, _∙_}
+use mathlib.Core.Path.{_∙_}
 use mathlib.Core.Logic.{_≢_}
 use Prim.Native.Nat.{ℕ, _<_}
 use native.Mathlib.Omega.{arith}
 use borrow.Author.Count.{below-more}
-use lib.Bits.{bitOr}
 use lib.ListN.{length, length-set}
 use lib.Seq.{getD-set-same, getD-set-other}
-use Rattle.std.proofs.shelf.Bits.{one-shl}
 use Rattle.drawn.proofs.drawing.fresh_rows.Needs as need
 
 pub loop-a-again : need.loop-a-again
@@ -17,5 +15,5 @@ loop-a-again c =
       length-set _ _ _ ∙ c .loop-a .inv .0,
       below-more _ _
           (λ k h. let other : k ≢ c .loop-a .a = omega arith in getD-set-other rows a k _ 0 other ∙ c .loop-a .inv .1 k h)
-          (getD-set-same rows a _ 0 inside ∙ ap (λ (n : ℕ). bitOr 1 n) (one-shl a 32 (c .loop-a-test .taken))),
+          (getD-set-same rows a _ 0 inside ∙ c .with-role .ensures .answer (omega arith)),
     )

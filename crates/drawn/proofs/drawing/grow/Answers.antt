@@ -9,11 +9,11 @@ use borrow.Author.Count.{below-more}
 use lib.Bits.{bitOr}
 use lib.ListN.{length, getD, set, length-set}
 use lib.Seq.{getD-set-same, getD-set-other}
-use Rattle.std.proofs.shelf.Tests.{cond-true, cond-false, eq-eqb, ne-eqb}
+use Rattle.std.proofs.shelf.Tests.{cond-true, cond-false}
 use Rattle.order.specs.RoleSets.{has}
 use Rattle.drawn.specs.Pairs.{grownRow}
 use Rattle.drawn.proofs.drawing.grow.Needs as need
-use Rattle.drawn.proofs.drawing.grow.Needs.{then-row-a-eq1, else-row-a-eq1}
+use Rattle.drawn.proofs.drawing.grow.Needs.{then-has-role, else-has-role}
 
 -- the first x rows have grown, and the others are as they were
 abbrev Upto : (rows out : List ℕ) (a b x : ℕ) → Type 0
@@ -41,15 +41,15 @@ left rows out a b x inv f = (
 )
 
 pub loop-x-again : need.loop-x-again
-unfolding has
 loop-x-again c =
     let rows = c .args .rows .now in
     let x = c .loop-x .x in
     let P : List ℕ → Type 0 = λ out. Upto (c .args .rows .now) out (c .args .a) (c .args .b) (c .loop-x .x + 1) in
-    elim (c .if-row-a-eq1 .came) [
-      | then-row-a-eq1 w ↦
+    elim (c .if-has-role .came) [
+      | then-has-role w ↦
           subst P (sym (w .grown-is))
-          (written rows (c .loop-x .grown) (c .args .a) (c .args .b) x (c .loop-x-test .taken) (c .loop-x .inv) (eq-eqb _ 1 (w .if-row-a-eq1 .taken)))
-      | else-row-a-eq1 w ↦
-          subst P (sym (w .grown-is)) (left rows (c .loop-x .grown) (c .args .a) (c .args .b) x (c .loop-x .inv) (ne-eqb _ 1 (w .if-row-a-eq1 .left)))
+          (written rows (c .loop-x .grown) (c .args .a) (c .args .b) x (c .loop-x-test .taken) (c .loop-x .inv) (sym (c .has-role .ensures .answer) ∙ w .if-has-role .taken))
+      | else-has-role w ↦
+          subst P (sym (w .grown-is))
+          (left rows (c .loop-x .grown) (c .args .a) (c .args .b) x (c .loop-x .inv) (sym (c .has-role .ensures .answer) ∙ w .if-has-role .left))
     ]

@@ -11,7 +11,7 @@ pub returns-then-role-role-count : need.returns-then-role-role-count
 returns-then-role-role-count g c =
     let size = g .O·Order .size in
     let says = decides-no {P = InUse size (c .args .set)}
-    (λ u. let h : c .in-Some .role < g .O·Order .size = u .roles (c .in-Some .role) (c .loop-role .inv .2 .rest (c .in-Some .role) (c .in-Some .ensures tt .steps .member)) in
+    (λ u. let h : c .in-Some .role < g .O·Order .size = u .1 (c .in-Some .role) (c .loop-role .inv .2 .rest (c .in-Some .role) (c .in-Some .ensures tt .steps .member)) in
     omega (arith, c .role-count .ensures .answer)) in
     record { answer = same-from-decides _ _ says (decides-in-use size (c .args .set) (omega arith)); says = says }
 
@@ -19,5 +19,5 @@ pub returns : need.returns
 returns g c =
     let size = g .O·Order .size in
     let all = searched-all (c .loop-role .inv .2) (c .in-None .ensures tt .steps .0) in
-    let says = decides-like {Q = InUse size (c .args .set)} _ (λ s. record { someone = s; roles = all }) (λ u. u .someone) (decides-not-zero (c .args .set)) in
+    let says = decides-like {Q = InUse size (c .args .set)} _ (λ s. (s, all)) (λ u. u .0) (decides-not-zero (c .args .set)) in
     record { answer = same-from-decides _ _ says (decides-in-use size (c .args .set) (omega arith)); says = says }

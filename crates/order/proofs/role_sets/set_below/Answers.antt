@@ -2,13 +2,9 @@ use mathlib.Core.Path.{ap, _∙_}
 use native.Mathlib.Omega.{arith}
 use Rattle.std.proofs.shelf.Ways.{same-from-decides, not-from-decides}
 use Rattle.order.specs.RoleSets.{SetBelow}
-use Rattle.order.proofs.Searches.{searched-none, searched-more, searched-all}
+use Rattle.order.proofs.Searches.{searched-more, searched-all}
 use Rattle.order.proofs.Tests.{decides-yes, decides-no, decides-set-below}
 use Rattle.order.proofs.role_sets.set_below.Needs as need
-
-pub loop-role-holds : need.loop-role-holds
-loop-role-holds g c =
-    (tt, tt, searched-none _ _ _ (ap (λ it. it .left) (c .into-iter-role-iterator .ensures .becomes) ∙ c .roles-of-role-items .ensures .answer))
 
 pub loop-role-again : need.loop-role-again
 loop-role-again g c =

@@ -4,17 +4,9 @@ use Rattle.std.specs.Orderings.{Decides}
 use Rattle.std.proofs.shelf.Tests.{both-ways}
 use Rattle.std.proofs.shelf.Ways.{same-from-decides}
 use Rattle.order.specs.RoleSets.{SomeBelow, someBelow}
-use Rattle.order.proofs.Searches.{searched-none, searched-more, searched-all}
+use Rattle.order.proofs.Searches.{searched-all}
 use Rattle.order.proofs.Tests.{decides-yes, decides-no, decides-some-below}
 use Rattle.order.proofs.role_sets.some_below.Needs as need
-
-pub loop-x-holds : need.loop-x-holds
-loop-x-holds g c =
-    (tt, tt, searched-none _ _ _ (ap (λ it. it .left) (c .into-iter-x-iterator .ensures .becomes) ∙ c .roles-of-x-items .ensures .answer))
-
-pub loop-x-again : need.loop-x-again
-loop-x-again g c =
-    (tt, tt, searched-more (c .loop-x .inv .2) (c .in-Some .ensures tt .steps) (sym (c .if-at-or-below .ensures tt .answer)))
 
 pub returns-then-at-or-below : need.returns-then-at-or-below
 returns-then-at-or-below g c =

@@ -12,7 +12,7 @@ use Rattle.drawn.proofs.rows.Drawn.least.Needs as need
 
 pub loop-pair-holds : need.loop-pair-holds
 loop-pair-holds c =
-    (only-top-contained _ _ (c .fresh-order .ensures .only-top), λ k h. absurd (not-suc-le-zero h))
+    (only-top-contained _ _ (c .no-pairs-order .ensures .answer), λ k h. absurd (not-suc-le-zero h))
 
 pub loop-pair-again : need.loop-pair-again
 loop-pair-again c =
