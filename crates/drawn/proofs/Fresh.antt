@@ -19,13 +19,13 @@ use Rattle.drawn.specs.Pairs.{onlyTop}
 use Rattle.drawn.proofs.Bounds.{rows-has, rows-out}
 use Rattle.drawn.proofs.Joins.{Contained, trans-as}
 
-only-refl : (a : ℕ) → a < 32 → onlyTop a a ≡ true
+pub only-refl : (a : ℕ) → a < 32 → onlyTop a a ≡ true
 only-refl a h = grind (arith, tells)
 
-only-trans : Transitive onlyTop
+pub only-trans : Transitive onlyTop
 only-trans a b c p q = grind (arith, tells)
 
-only-topmost : (a : ℕ) → a < 32 → onlyTop a 0 ≡ true
+pub only-topmost : (a : ℕ) → a < 32 → onlyTop a 0 ≡ true
 only-topmost a h = grind (arith, tells)
 
 only-contained : (pairs : List (ℕ × ℕ)) → Contained pairs onlyTop
