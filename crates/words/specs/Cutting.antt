@@ -1,8 +1,9 @@
 -- How a text of bytes is cut: a line into words, and a set's text into the numbers in it.
 -- A text is a list of byte codes, and any bytes may stand in it.
 use mathlib.Core.Bool.{Bool, true, false, cond, _||_}
-use mathlib.Core.List.{List, [], _∷_}
+use mathlib.Core.List.{List, [], _∷_, map}
 use Prim.Native.Nat.{ℕ}
+use denote.Ref.{RefT}
 use lib.Dec.{eqb}
 
 -- A blank is a space, a tab or a carriage return.
@@ -32,3 +33,7 @@ filled ((b ∷ w) ∷ ws) = (b ∷ w) ∷ filled ws
 -- The words of a line: what stands between its blanks.
 abbrev pub wordsOf : List ℕ → List (List ℕ)
 wordsOf line = filled (stretches isBlank line)
+
+-- What words that are lent show.
+abbrev pub texts : List (RefT (List ℕ)) → List (List ℕ)
+texts words = map (λ w. w .now) words

