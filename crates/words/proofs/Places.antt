@@ -20,7 +20,7 @@ use Rattle.words.specs.declared.line.Why.the-variants.{Missing, TooMany}
 use Rattle.words.specs.Cutting.{texts}
 use Rattle.words.specs.Saying.{fault, wanted, endAt}
 
-length-texts : (words : List (RefT (List ℕ))) → length (texts words) ≡ length words
+pub length-texts : (words : List (RefT (List ℕ))) → length (texts words) ≡ length words
 length-texts words = length-map words (λ w. w .now)
 
 text-at : (words : List (RefT (List ℕ))) (place : ℕ) (word : RefT (List ℕ)) → place < length words → word ≡ getD words place word

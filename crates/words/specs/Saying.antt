@@ -5,7 +5,7 @@ use mathlib.Core.List.{List, [], _∷_}
 use Prim.Native.Nat.{ℕ, _+_}
 use lib.Chars.{codes}
 use lib.Dec.{eqb, ltb}
-use lib.ListN.{length, getD}
+use lib.ListN.{length, getD, drop}
 use Rattle.std.specs.declared.option.Option.{Option}
 use Rattle.std.specs.declared.option.Option.the-variants.{Some, None}
 use Rattle.std.specs.declared.result.Result.{Result}
@@ -22,7 +22,7 @@ use Rattle.words.specs.declared.line.OrderKind.{OrderKind}
 use Rattle.words.specs.declared.line.OrderKind.the-variants.{Drawn, Rights}
 use Rattle.words.specs.declared.line.Unclear.{Unclear}
 use Rattle.words.specs.declared.line.Why.{Why}
-use Rattle.words.specs.declared.line.Why.the-variants.{NoCommand, NoOrder, NoRoleCode, NoRoleSet, Missing, TooMany}
+use Rattle.words.specs.declared.line.Why.the-variants.{NotACommand, NotAnOrder, NotARoleCode, NotARoleSet, Missing, TooMany}
 use Rattle.words.specs.declared.read.Name.{Name}
 use Rattle.words.specs.declared.read.Name.the-variants as name
 use Rattle.words.specs.Cutting.{wordsOf}
@@ -71,13 +71,13 @@ orderOf word = cond (sameBytes word (codes "drawn")) (Some Drawn) (cond (sameByt
 
 -- What stands at a place: the name of an order, a role's code, a set of roles, or nothing more.
 abbrev pub orderAt : List (List ℕ) → ℕ → Result OrderKind Unclear
-orderAt words place = wanted orderOf NoOrder place (nth words place)
+orderAt words place = wanted orderOf NotAnOrder place (nth words place)
 
 abbrev pub codeAt : List (List ℕ) → ℕ → Result ℕ Unclear
-codeAt words place = wanted roleCode NoRoleCode place (nth words place)
+codeAt words place = wanted roleCode NotARoleCode place (nth words place)
 
 abbrev pub setAt : List (List ℕ) → ℕ → Result ℕ Unclear
-setAt words place = wanted roleSet NoRoleSet place (nth words place)
+setAt words place = wanted roleSet NotARoleSet place (nth words place)
 
 abbrev pub endAt : List (List ℕ) → ℕ → Result (Unit {0}) Unclear
 endAt words place = cond (ltb place (length words)) (Err (fault place TooMany)) (Ok tt)
@@ -101,20 +101,19 @@ opensAsked words = thenOk (setAt words 1) (λ a. thenOk (setAt words 2) (λ b. t
 -- The pairs of role codes that are spelled by words of which the first has the number `place`.
 abbrev pub pairsFrom : ℕ → List (List ℕ) → Result (List (ℕ × ℕ)) Unclear
 pairsFrom place [] = Ok []
-pairsFrom place (v ∷ []) = thenOk (wanted roleCode NoRoleCode place (Some v)) (λ a. Err (fault (place + 1) Missing))
+pairsFrom place (v ∷ []) = thenOk (wanted roleCode NotARoleCode place (Some v)) (λ a. Err (fault (place + 1) Missing))
 pairsFrom place (v ∷ w ∷ ws) =
-    thenOk (wanted roleCode NoRoleCode place (Some v)) (λ a.
-    thenOk (wanted roleCode NoRoleCode (place + 1) (Some w)) (λ b.
+    thenOk (wanted roleCode NotARoleCode place (Some v)) (λ a.
+    thenOk (wanted roleCode NotARoleCode (place + 1) (Some w)) (λ b.
     thenOk (pairsFrom (place + 2) ws) (λ pairs. Ok ((a, b) ∷ pairs))))
 
 -- `draw A B A B ..`
 abbrev pub drawAsked : List (List ℕ) → Result Asked Unclear
-drawAsked [] = Ok (draw [])
-drawAsked (w ∷ ws) = thenOk (pairsFrom 1 ws) (λ pairs. Ok (draw pairs))
+drawAsked words = thenOk (pairsFrom 1 (drop 1 words)) (λ pairs. Ok (draw pairs))
 
 -- What the command of this name asks.
 abbrev pub askedBy : Option Name → List (List ℕ) → Result Asked Unclear
-askedBy None words = Err (fault 0 NoCommand)
+askedBy None words = Err (fault 0 NotACommand)
 askedBy (Some name.Order) words = orderAsked words
 askedBy (Some name.Draw) words = drawAsked words
 askedBy (Some name.Below) words = belowAsked words

@@ -20,10 +20,10 @@ pub enum Command {
 
 #[derive(Clone, Copy)]
 pub enum Why {
-    NoCommand,
-    NoOrder,
-    NoRoleCode,
-    NoRoleSet,
+    NotACommand,
+    NotAnOrder,
+    NotARoleCode,
+    NotARoleSet,
     Missing,
     TooMany,
 }

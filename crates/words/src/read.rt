@@ -1,9 +1,11 @@
 // Reads what a line says, word by word from the left.
 ghost use mathlib.Core.Path.{_≡_};
+ghost use Prim.Native.Nat.{_<_};
+ghost use lib.ListN.{length};
 ghost use Rattle.std.specs.Vec.{made};
 ghost use Rattle.std.specs.shelf.Text.{sameBytes};
 ghost use Rattle.words.specs.Cutting.{texts};
-ghost use Rattle.words.specs.Saying.{nameOf, orderOf, orderAt, codeAt, setAt, endAt, orderAsked, belowAsked, underAsked, opensAsked, drawAsked, asked, saidIs, saidBy, said, saidOf};
+ghost use Rattle.words.specs.Saying.{nameOf, orderOf, orderAt, codeAt, setAt, endAt, orderAsked, belowAsked, underAsked, opensAsked, drawAsked, asked, askedBy, saidIs, isNote, saidBy, said, saidOf};
 use super::cut::cut;
 use super::line::Command;
 use super::line::Line;
@@ -64,7 +66,7 @@ fn order_at(words: &[&[u8]], place: usize) -> Result<OrderKind, Unclear>
     ensures answer { λ r. ⌜ r ≡ orderAt (texts (now (words .entry))) place ⌝ }
 {
     match words.get(place) {
-        Some(word) => order_of(word).ok_or(Unclear { word: place, why: Why::NoOrder }),
+        Some(word) => order_of(word).ok_or(Unclear { word: place, why: Why::NotAnOrder }),
         None => Err(Unclear { word: place, why: Why::Missing }),
     }
 }
@@ -73,7 +75,7 @@ fn role_code_at(words: &[&[u8]], place: usize) -> Result<u32, Unclear>
     ensures answer { λ r. ⌜ r ≡ codeAt (texts (now (words .entry))) place ⌝ }
 {
     match words.get(place) {
-        Some(word) => role_code(word).ok_or(Unclear { word: place, why: Why::NoRoleCode }),
+        Some(word) => role_code(word).ok_or(Unclear { word: place, why: Why::NotARoleCode }),
         None => Err(Unclear { word: place, why: Why::Missing }),
     }
 }
@@ -82,7 +84,7 @@ fn role_set_at(words: &[&[u8]], place: usize) -> Result<u64, Unclear>
     ensures answer { λ r. ⌜ r ≡ setAt (texts (now (words .entry))) place ⌝ }
 {
     match words.get(place) {
-        Some(word) => role_set(word).ok_or(Unclear { word: place, why: Why::NoRoleSet }),
+        Some(word) => role_set(word).ok_or(Unclear { word: place, why: Why::NotARoleSet }),
         None => Err(Unclear { word: place, why: Why::Missing }),
     }
 }
@@ -140,7 +142,70 @@ fn line_of(read: Result<Command, Unclear>) -> Line
     }
 }
 
-pub fn read_line(heap: Global, line: &[u8]) -> Result<Line, AllocError>
+fn draw(heap: Global, words: &[&[u8]]) -> Result<Line, AllocError>
+    requires { ⌜ 0 < length (now words) ⌝ }
+    ensures answer { λ r. ⌜ made r (λ line. saidOf line ≡ saidIs (drawAsked (texts (now (words .entry))))) ⌝ }
 {
-    Ok(Line::Passed)
+    let mut pairs = Vec::new(heap);
+    let mut first: Option<u32> = None;
+    for place in 1..words.len() {
+        match role_code_at(words, place) {
+            Err(unclear) => return Ok(Line::Unclear(unclear)),
+            Ok(code) => match first {
+                None => first = Some(code),
+                Some(a) => {
+                    pairs.push((a, code))?;
+                    first = None;
+                }
+            },
+        }
+    }
+    match first {
+        None => Ok(Line::Asks(Command::Draw(pairs))),
+        Some(_) => Ok(Line::Unclear(Unclear { word: words.len(), why: Why::Missing })),
+    }
+}
+
+fn is_note(word: &[u8]) -> bool
+    ensures answer { λ r. ⌜ r ≡ isNote (now (word .entry)) ⌝ }
+{
+    if word.is_empty() {
+        return false;
+    }
+    word[0] == b'#'
+}
+
+fn asked_by(heap: Global, name: Option<Name>, words: &[&[u8]]) -> Result<Line, AllocError>
+    requires { ⌜ 0 < length (now words) ⌝ }
+    ensures answer { λ r. ⌜ made r (λ line. saidOf line ≡ saidIs (askedBy name (texts (now (words .entry))))) ⌝ }
+{
+    let Some(name) = name else {
+        return Ok(Line::Unclear(Unclear { word: 0, why: Why::NotACommand }));
+    };
+    match name {
+        Name::Order => Ok(line_of(order(words))),
+        Name::Draw => draw(heap, words),
+        Name::Below => Ok(line_of(below(words))),
+        Name::Under => Ok(line_of(under(words))),
+        Name::Opens => Ok(line_of(opens(words))),
+    }
+}
+
+fn said_by(heap: Global, words: &[&[u8]]) -> Result<Line, AllocError>
+    ensures answer { λ r. ⌜ made r (λ line. saidOf line ≡ saidBy (texts (now (words .entry)))) ⌝ }
+{
+    let Some(first) = words.first() else {
+        return Ok(Line::Passed);
+    };
+    if is_note(first) {
+        return Ok(Line::Passed);
+    }
+    asked_by(heap, name_of(first), words)
+}
+
+pub fn read_line(heap: Global, line: &[u8]) -> Result<Line, AllocError>
+    ensures answer { λ r. ⌜ made r (λ read. saidOf read ≡ said (now (line .entry))) ⌝ }
+{
+    let words = cut(heap, line)?;
+    said_by(heap, words.as_slice())
 }
