@@ -1,3 +1,4 @@
 pub mod Cutting
 pub mod Saying
+pub mod Showing
 pub mod Spelling

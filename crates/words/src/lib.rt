@@ -1,9 +1,12 @@
 // What a line of the console's input says, and how an answer is written.
+mod answer;
 mod cut;
 mod line;
 mod read;
 mod spelled;
 
+pub use answer::Answer;
+pub use answer::AnswerDisplay;
 pub use line::Command;
 pub use line::Line;
 pub use line::OrderKind;
