@@ -55,7 +55,7 @@ rest-is place [] = refl
 rest-is place (v ∷ []) = refl
 rest-is place (v ∷ w ∷ ws) =
     then-same (code place v) _ _ (λ a. then-same (code (place + 1) w) _ _ (λ b.
-      ap (onto ((a, b) ∷ [])) (ap (λ n. rest None n ws) (add-assoc place 1 1) ∙ rest-is (place + 2) ws)))
+    ap (onto ((a, b) ∷ [])) (ap (λ n. rest None n ws) (add-assoc place 1 1) ∙ rest-is (place + 2) ws)))
 
 onto-none : (r : Pairs) → onto [] r ≡ r
 onto-none (Ok ps) = refl

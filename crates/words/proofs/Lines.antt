@@ -11,7 +11,7 @@ use Rattle.std.proofs.shelf.Lists.{take-rest}
 use Rattle.words.specs.Cutting.{isBlank, filled, wordsOf}
 use Rattle.words.proofs.Cuts.{ahead, ahead-all, ahead-end, ahead-cut, ahead-on}
 
-filled-some : (w : List ℕ) (ws : List (List ℕ)) → 0 < length w → filled (w ∷ ws) ≡ w ∷ filled ws
+pub filled-some : (w : List ℕ) (ws : List (List ℕ)) → 0 < length w → filled (w ∷ ws) ≡ w ∷ filled ws
 filled-some [] ws some = absurd (omega arith)
 filled-some (b ∷ w) ws some = refl
 

@@ -35,11 +35,11 @@ or-assoc : (a b c : ℕ) → bitOr (bitOr a b) c ≡ bitOr a (bitOr b c)
 or-assoc =
     bin-ind (λ (n : ℕ). (b c : ℕ) → bitOr (bitOr n b) c ≡ bitOr n (bitOr b c)) (λ b c. ap (λ n. bitOr n c) (or-zero-l b) ∙ sym (or-zero-l (bitOr b c)))
     (λ n half b c. by-digits _ _
-      (or-shr (bitOr n b) c 1 ∙ ap (λ x. bitOr x (c / 2)) (or-shr n b 1) ∙ half (b / 2) (c / 2)
-      ∙ sym (or-shr n (bitOr b c) 1 ∙ ap (bitOr (n / 2)) (or-shr b c 1)))
-      (or-mod (bitOr n b) c 1 ∙ ap (λ x. bitOr x (c % 2)) (or-mod n b 1)
-      ∙ digit-assoc (n % 2) (b % 2) (c % 2) (mod-lt n (omega arith)) (mod-lt b (omega arith)) (mod-lt c (omega arith))
-      ∙ sym (or-mod n (bitOr b c) 1 ∙ ap (bitOr (n % 2)) (or-mod b c 1))))
+    (or-shr (bitOr n b) c 1 ∙ ap (λ x. bitOr x (c / 2)) (or-shr n b 1) ∙ half (b / 2) (c / 2)
+    ∙ sym (or-shr n (bitOr b c) 1 ∙ ap (bitOr (n / 2)) (or-shr b c 1)))
+    (or-mod (bitOr n b) c 1 ∙ ap (λ x. bitOr x (c % 2)) (or-mod n b 1)
+    ∙ digit-assoc (n % 2) (b % 2) (c % 2) (mod-lt n (omega arith)) (mod-lt b (omega arith)) (mod-lt c (omega arith))
+    ∙ sym (or-mod n (bitOr b c) 1 ∙ ap (bitOr (n % 2)) (or-mod b c 1))))
 
 joined-more : (s bit : ℕ) (t : Option ℕ) → joined (Some s) (joined (Some bit) t) ≡ joined (Some (bitOr s bit)) t
 joined-more s bit None = refl

@@ -66,8 +66,14 @@ fn order_at(words: &[&[u8]], place: usize) -> Result<OrderKind, Unclear>
     ensures answer { λ r. ⌜ r ≡ orderAt (texts (now (words .entry))) place ⌝ }
 {
     match words.get(place) {
-        Some(word) => order_of(word).ok_or(Unclear { word: place, why: Why::NotAnOrder }),
-        None => Err(Unclear { word: place, why: Why::Missing }),
+        Some(word) => order_of(word).ok_or(Unclear {
+            word: place,
+            why: Why::NotAnOrder,
+        }),
+        None => Err(Unclear {
+            word: place,
+            why: Why::Missing,
+        }),
     }
 }
 
@@ -75,8 +81,14 @@ fn role_code_at(words: &[&[u8]], place: usize) -> Result<u32, Unclear>
     ensures answer { λ r. ⌜ r ≡ codeAt (texts (now (words .entry))) place ⌝ }
 {
     match words.get(place) {
-        Some(word) => role_code(word).ok_or(Unclear { word: place, why: Why::NotARoleCode }),
-        None => Err(Unclear { word: place, why: Why::Missing }),
+        Some(word) => role_code(word).ok_or(Unclear {
+            word: place,
+            why: Why::NotARoleCode,
+        }),
+        None => Err(Unclear {
+            word: place,
+            why: Why::Missing,
+        }),
     }
 }
 
@@ -84,8 +96,14 @@ fn role_set_at(words: &[&[u8]], place: usize) -> Result<u64, Unclear>
     ensures answer { λ r. ⌜ r ≡ setAt (texts (now (words .entry))) place ⌝ }
 {
     match words.get(place) {
-        Some(word) => role_set(word).ok_or(Unclear { word: place, why: Why::NotARoleSet }),
-        None => Err(Unclear { word: place, why: Why::Missing }),
+        Some(word) => role_set(word).ok_or(Unclear {
+            word: place,
+            why: Why::NotARoleSet,
+        }),
+        None => Err(Unclear {
+            word: place,
+            why: Why::Missing,
+        }),
     }
 }
 
@@ -93,7 +111,10 @@ fn end_at(words: &[&[u8]], place: usize) -> Result<(), Unclear>
     ensures answer { λ r. ⌜ r ≡ endAt (texts (now (words .entry))) place ⌝ }
 {
     if place < words.len() {
-        return Err(Unclear { word: place, why: Why::TooMany });
+        return Err(Unclear {
+            word: place,
+            why: Why::TooMany,
+        });
     }
     Ok(())
 }
@@ -162,7 +183,10 @@ fn draw(heap: Global, words: &[&[u8]]) -> Result<Line, AllocError>
     }
     match first {
         None => Ok(Line::Asks(Command::Draw(pairs))),
-        Some(_) => Ok(Line::Unclear(Unclear { word: words.len(), why: Why::Missing })),
+        Some(_) => Ok(Line::Unclear(Unclear {
+            word: words.len(),
+            why: Why::Missing,
+        })),
     }
 }
 
@@ -180,7 +204,10 @@ fn asked_by(heap: Global, name: Option<Name>, words: &[&[u8]]) -> Result<Line, A
     ensures answer { λ r. ⌜ made r (λ line. saidOf line ≡ saidIs (askedBy name (texts (now (words .entry))))) ⌝ }
 {
     let Some(name) = name else {
-        return Ok(Line::Unclear(Unclear { word: 0, why: Why::NotACommand }));
+        return Ok(Line::Unclear(Unclear {
+            word: 0,
+            why: Why::NotACommand,
+        }));
     };
     match name {
         Name::Order => Ok(line_of(order(words))),

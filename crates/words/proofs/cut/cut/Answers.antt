@@ -14,26 +14,28 @@ loop-i-holds c = none-yet _ (c .args .line .now) (ap texts (c .new-words .ensure
 pub loop-i-again : need.loop-i-again
 loop-i-again c =
     elim (c .if-is-blank .came) [
-      then-is-blank w ↦
-        let blank = sym (w .if-is-blank .ensures tt .answer) in
-        elim (w .if-start-i .came) [
-          then-start-i·in-Continue-push v ↦
-            let pushed = chosen _ _ _ _ (v .push .ensures .items) (ap isOk (v .in-Continue-push .was tt)) in
-            one-more (c .loop-i .inv) (c .loop-i-test .taken) _ _ blank (v .if-start-i .taken)
-            (ap (λ x. texts (vec-items x)) (w .words-is ∙ v .words-is) ∙ ap texts pushed ∙ map-push _ (vec-items (c .loop-i .words)) _) (w .start-is)
-        | else-start-i v ↦ gap (c .loop-i .inv) (c .loop-i-test .taken) _ _ blank (v .if-start-i .left) (ap (λ x. texts (vec-items x)) (w .words-is ∙ v .words-is)) (w .start-is)
-        ]
-    | else-is-blank w ↦
-        same-word (c .loop-i .inv) (c .loop-i-test .taken) _ _ (sym (w .if-is-blank .ensures tt .answer)) (ap (λ x. texts (vec-items x)) (w .words-is)) (w .start-is)
+      | then-is-blank w ↦
+          let blank = sym (w .if-is-blank .ensures tt .answer) in
+          elim (w .if-start-i .came) [
+            | then-start-i·in-Continue-push v ↦
+                let pushed = chosen _ _ _ _ (v .push .ensures .items) (ap isOk (v .in-Continue-push .was tt)) in
+                one-more (c .loop-i .inv) (c .loop-i-test .taken) _ _ blank (v .if-start-i .taken)
+                (ap (λ x. texts (vec-items x)) (w .words-is ∙ v .words-is) ∙ ap texts pushed ∙ map-push _ (vec-items (c .loop-i .words)) _) (w .start-is)
+            | else-start-i v ↦ gap (c .loop-i .inv) (c .loop-i-test .taken) _ _ blank (v .if-start-i .left) (ap (λ x. texts (vec-items x)) (w .words-is ∙ v .words-is)) (w .start-is)
+          ]
+      | else-is-blank w ↦
+          same-word (c .loop-i .inv) (c .loop-i-test .taken) _ _ (sym (w .if-is-blank .ensures tt .answer)) (ap (λ x. texts (vec-items x)) (w .words-is)) (w .start-is)
     ]
 
 pub returns : need.returns
 returns c =
     elim (c .if-start-line .came) [
-      then-start-line·in-Continue-push-2 w ↦
-        let pushed = chosen _ _ _ _ (w .push-then-start-line .ensures .items) (ap isOk (w .in-Continue-push-2 .was tt)) in
-        record { answer = last-word (c .loop-i .inv) _ (c .loop-i-test .left) (w .if-start-line .taken)
-          (ap (λ x. texts (vec-items x)) (w .words-is) ∙ ap texts pushed ∙ map-push _ (vec-items (c .loop-i .words)) _) }
-    | else-start-line w ↦
-        record { answer = ap (λ x. texts (vec-items x)) (w .words-is) ∙ no-more (c .loop-i .inv) (c .loop-i-test .left) (w .if-start-line .left) }
+      | then-start-line·in-Continue-push-2 w ↦
+          let pushed = chosen _ _ _ _ (w .push-then-start-line .ensures .items) (ap isOk (w .in-Continue-push-2 .was tt)) in
+          record {
+            answer = last-word (c .loop-i .inv) _ (c .loop-i-test .left) (w .if-start-line .taken)
+                (ap (λ x. texts (vec-items x)) (w .words-is) ∙ ap texts pushed ∙ map-push _ (vec-items (c .loop-i .words)) _);
+          }
+      | else-start-line w ↦
+          record { answer = ap (λ x. texts (vec-items x)) (w .words-is) ∙ no-more (c .loop-i .inv) (c .loop-i-test .left) (w .if-start-line .left) }
     ]

@@ -20,10 +20,10 @@ pub loop-place-again : need.loop-place-again
 loop-place-again c =
     let long = length-texts (c .args .words .now) in
     elim (c .match-first .came) [
-      in-None w ↦ waits (c .loop-place .inv) (omega arith) (c .in-Ok .code) _ _ (w .in-None .is) (c .in-Ok .ensures tt .answer) (ap vec-items (w .pairs-is)) (w .first-is)
-    | in-Some·in-Continue-push w ↦
-        let pushed = chosen _ _ _ _ (w .push .ensures .items) (ap isOk (w .in-Continue-push .was tt)) in
-        paired (c .loop-place .inv) (omega arith) (w .in-Some .a) (c .in-Ok .code) _ _ (w .in-Some .is) (c .in-Ok .ensures tt .answer) (ap vec-items (w .pairs-is) ∙ pushed) (w .first-is)
+      | in-None w ↦ waits (c .loop-place .inv) (omega arith) (c .in-Ok .code) _ _ (w .in-None .is) (c .in-Ok .ensures tt .answer) (ap vec-items (w .pairs-is)) (w .first-is)
+      | in-Some·in-Continue-push w ↦
+          let pushed = chosen _ _ _ _ (w .push .ensures .items) (ap isOk (w .in-Continue-push .was tt)) in
+          paired (c .loop-place .inv) (omega arith) (w .in-Some .a) (c .in-Ok .code) _ _ (w .in-Some .is) (c .in-Ok .ensures tt .answer) (ap vec-items (w .pairs-is) ∙ pushed) (w .first-is)
     ]
 
 pub returns-in-None-first : need.returns-in-None-first

@@ -16,7 +16,9 @@ returns-then-is-note c =
 pub returns : need.returns
 returns c =
     let at = c .in-Some .ensures tt .item in
-    record { answer = made-weaker (c .asked-by .result) _ _
-      (λ line asked. a-command (c .args .words .now) (c .in-Some .first .now) (saidOf line) (at .3 .0) (at .1) (c .if-is-note .ensures tt .answer)
-        (asked ∙ ap (λ name. saidIs (askedBy name (texts (c .args .words .now)))) (c .name-of .ensures .answer)))
-      (c .asked-by .ensures .answer) }
+    record {
+      answer = made-weaker (c .asked-by .result) _ _
+          (λ line asked. a-command (c .args .words .now) (c .in-Some .first .now) (saidOf line) (at .3 .0) (at .1) (c .if-is-note .ensures tt .answer)
+          (asked ∙ ap (λ name. saidIs (askedBy name (texts (c .args .words .now)))) (c .name-of .ensures .answer)))
+          (c .asked-by .ensures .answer);
+    }

@@ -16,9 +16,9 @@ returns-in-Break-set c =
 pub loop-i-again : need.loop-i-again
 loop-i-again c =
     elim (c .if-byte-eq44 .came) [
-      then-byte-eq44·in-Continue-set w ↦
-        one-more (c .loop-i .inv) (c .loop-i-test .taken) (w .in-Continue-set .field-0) _ _ (w .if-byte-eq44 .taken) (w .in-Continue-set .ensures tt .answer) (w .set-is) (w .start-is)
-    | else-byte-eq44 w ↦ same-role (c .loop-i .inv) (c .loop-i-test .taken) _ _ (w .if-byte-eq44 .left) (w .set-is) (w .start-is)
+      | then-byte-eq44·in-Continue-set w ↦
+          one-more (c .loop-i .inv) (c .loop-i-test .taken) (w .in-Continue-set .field-0) _ _ (w .if-byte-eq44 .taken) (w .in-Continue-set .ensures tt .answer) (w .set-is) (w .start-is)
+      | else-byte-eq44 w ↦ same-role (c .loop-i .inv) (c .loop-i-test .taken) _ _ (w .if-byte-eq44 .left) (w .set-is) (w .start-is)
     ]
 
 pub returns-in-Break-one-role : need.returns-in-Break-one-role
