@@ -1,11 +1,17 @@
-// The worked cases: as theorems in one table, and run against the code with both sides of every limit.
+// The worked cases: as theorems in one table, and run against the code, with both sides of every limit.
 ghost use Rattle.cases.specs.Worked.{WorkedCases};
+use std::io;
 
-// The worked cases hold, whatever the code does.
+mod lines;
+mod orders;
+
+// The worked cases hold of the definitions that the contracts are stated with.
 pub fn worked_cases_hold()
     ensures cases { λ _. ⌜ WorkedCases ⌝ }
 {}
 
-fn main() {
+fn main(rt: LibcRuntime) -> io::Result<()> {
     worked_cases_hold();
+    orders::run(&rt)?;
+    lines::run(&rt)
 }

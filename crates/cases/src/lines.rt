@@ -1,0 +1,54 @@
+// The console's lines: both sides of each limit of what can be written.
+use session::Session;
+use std::io;
+use words::AnswerDisplay;
+
+const LINES: [&str; 30] = [
+    "draw 31 0",
+    "draw 32 0",
+    "draw 0 31 0 32",
+    "draw",
+    "draw 1",
+    "draw 1 2 3",
+    "draw 1 2",
+    "below 1 2",
+    "below 2 1",
+    "below 31 0",
+    "below 32 0",
+    "below 4294967295 0",
+    "below 4294967296 0",
+    "below 0001 02",
+    "below -1 0",
+    "below 1",
+    "below 1 2 3",
+    "under {63} {63}",
+    "under {64} {63}",
+    "under {} {}",
+    "under {0,1} {2}",
+    "under {1,0,1} {2}",
+    "under {0,1,} {2}",
+    "under {0, 1} {2}",
+    "opens {0,3} {}",
+    "order rights",
+    "below 63 63",
+    "draw 1 2",
+    "order tanks",
+    "step 0",
+];
+
+pub(crate) fn run(rt: &LibcRuntime) -> io::Result<()> {
+    let mut session = Session::new();
+    for line in LINES {
+        match session.reply(rt.alloc(), line.as_bytes())? {
+            Some(answer) => println!(rt, "{line} -> {answer}")?,
+            None => println!(rt, "{line} -> (passed over)")?,
+        }
+    }
+    for line in ["", "   ", "# draw 1 2", " \t#"] {
+        match session.reply(rt.alloc(), line.as_bytes())? {
+            Some(answer) => println!(rt, "{line:?} -> {answer}")?,
+            None => println!(rt, "{line:?} is passed over")?,
+        }
+    }
+    Ok(())
+}

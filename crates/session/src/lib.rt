@@ -1,0 +1,5 @@
+// A console session: the order in force, and what each line of input is answered.
+mod answers;
+mod standing;
+
+pub use standing::Session;

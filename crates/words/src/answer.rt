@@ -1,0 +1,51 @@
+// How an answer is written: one line, without its end.
+ghost use mathlib.Core.Path.{_≡_};
+ghost use Rattle.std.specs.declared.option.Option.the-variants.{Some};
+ghost use Rattle.words.specs.Showing.{reasonOf, answerText};
+use super::line::Unclear;
+use super::line::Why;
+use std::fmt;
+
+#[derive(Clone, Copy)]
+pub enum Answer {
+    Ok,
+    Yes,
+    No,
+    // The pair at this place, counted from 0, was not drawn.
+    PairRefused { number: u32, pair: usize },
+    // The order is not one that is drawn.
+    NotDrawn { number: u32 },
+    Unclear(Unclear),
+}
+
+fn reason(why: Why) -> &'static str
+    ensures answer { λ r. ⌜ now r ≡ reasonOf why ⌝ }
+{
+    match why {
+        Why::NotACommand => "no such command",
+        Why::NotAnOrder => "no such order",
+        Why::NotARoleCode => "not a role code",
+        Why::NotARoleSet => "not a role set",
+        Why::Missing => "missing",
+        Why::TooMany => "too many words",
+    }
+}
+
+pub impl fmt::Display for Answer as AnswerDisplay {
+    ghost shown = { λ a. Some (answerText a) };
+
+    fn fmt<W: fmt::Write>(&self, f: &mut fmt::Formatter<W>) -> fmt::Result {
+        match *self {
+            Answer::Ok => f.write_str("ok"),
+            Answer::Yes => f.write_str("yes"),
+            Answer::No => f.write_str("no"),
+            Answer::PairRefused { number, pair } => write!(f, "refused {number} pair {pair}"),
+            Answer::NotDrawn { number } => write!(f, "refused {number} not drawn"),
+            Answer::Unclear(unclear) => {
+                let word = unclear.word;
+                let reason = reason(unclear.why);
+                write!(f, "? word {word}: {reason}")
+            }
+        }
+    }
+}

@@ -1,0 +1,18 @@
+// What a line of the console's input says, and how an answer is written.
+mod answer;
+mod cut;
+mod laws;
+mod line;
+mod read;
+mod spelled;
+
+pub use answer::Answer;
+pub use answer::AnswerDisplay;
+pub use laws::codes_read_back;
+pub use laws::words_read_back;
+pub use line::Command;
+pub use line::Line;
+pub use line::OrderKind;
+pub use line::Unclear;
+pub use line::Why;
+pub use read::read_line;

@@ -1,0 +1,238 @@
+// Reads what a line says, word by word from the left.
+ghost use mathlib.Core.Path.{_≡_};
+ghost use Prim.Native.Nat.{_<_};
+ghost use lib.ListN.{length};
+ghost use Rattle.std.specs.Vec.{made};
+ghost use Rattle.std.specs.shelf.Text.{sameBytes};
+ghost use Rattle.words.specs.Cutting.{texts};
+ghost use Rattle.words.specs.Saying.{nameOf, orderOf, orderAt, codeAt, setAt, endAt, orderAsked, belowAsked, underAsked, opensAsked, drawAsked, asked, askedBy, saidIs, isNote, saidBy, said, saidOf};
+use super::cut::cut;
+use super::line::Command;
+use super::line::Line;
+use super::line::OrderKind;
+use super::line::Unclear;
+use super::line::Why;
+use super::spelled::role_code;
+use super::spelled::role_set;
+use std::alloc::AllocError;
+use std::alloc::Global;
+
+#[derive(Clone, Copy)]
+pub enum Name {
+    Order,
+    Draw,
+    Below,
+    Under,
+    Opens,
+}
+
+fn spells(word: &[u8], text: &str) -> bool
+    ensures answer { λ r. ⌜ r ≡ sameBytes (now (word .entry)) (now (text .entry)) ⌝ }
+{
+    word == text.as_bytes()
+}
+
+fn name_of(word: &[u8]) -> Option<Name>
+    ensures answer { λ r. ⌜ r ≡ nameOf (now (word .entry)) ⌝ }
+{
+    if spells(word, "order") {
+        Some(Name::Order)
+    } else if spells(word, "draw") {
+        Some(Name::Draw)
+    } else if spells(word, "below") {
+        Some(Name::Below)
+    } else if spells(word, "under") {
+        Some(Name::Under)
+    } else if spells(word, "opens") {
+        Some(Name::Opens)
+    } else {
+        None
+    }
+}
+
+fn order_of(word: &[u8]) -> Option<OrderKind>
+    ensures answer { λ r. ⌜ r ≡ orderOf (now (word .entry)) ⌝ }
+{
+    if spells(word, "drawn") {
+        Some(OrderKind::Drawn)
+    } else if spells(word, "rights") {
+        Some(OrderKind::Rights)
+    } else {
+        None
+    }
+}
+
+fn order_at(words: &[&[u8]], place: usize) -> Result<OrderKind, Unclear>
+    ensures answer { λ r. ⌜ r ≡ orderAt (texts (now (words .entry))) place ⌝ }
+{
+    match words.get(place) {
+        Some(word) => order_of(word).ok_or(Unclear {
+            word: place,
+            why: Why::NotAnOrder,
+        }),
+        None => Err(Unclear {
+            word: place,
+            why: Why::Missing,
+        }),
+    }
+}
+
+fn role_code_at(words: &[&[u8]], place: usize) -> Result<u32, Unclear>
+    ensures answer { λ r. ⌜ r ≡ codeAt (texts (now (words .entry))) place ⌝ }
+{
+    match words.get(place) {
+        Some(word) => role_code(word).ok_or(Unclear {
+            word: place,
+            why: Why::NotARoleCode,
+        }),
+        None => Err(Unclear {
+            word: place,
+            why: Why::Missing,
+        }),
+    }
+}
+
+fn role_set_at(words: &[&[u8]], place: usize) -> Result<u64, Unclear>
+    ensures answer { λ r. ⌜ r ≡ setAt (texts (now (words .entry))) place ⌝ }
+{
+    match words.get(place) {
+        Some(word) => role_set(word).ok_or(Unclear {
+            word: place,
+            why: Why::NotARoleSet,
+        }),
+        None => Err(Unclear {
+            word: place,
+            why: Why::Missing,
+        }),
+    }
+}
+
+fn end_at(words: &[&[u8]], place: usize) -> Result<(), Unclear>
+    ensures answer { λ r. ⌜ r ≡ endAt (texts (now (words .entry))) place ⌝ }
+{
+    if place < words.len() {
+        return Err(Unclear {
+            word: place,
+            why: Why::TooMany,
+        });
+    }
+    Ok(())
+}
+
+fn order(words: &[&[u8]]) -> Result<Command, Unclear>
+    ensures answer { λ r. ⌜ asked r ≡ orderAsked (texts (now (words .entry))) ⌝ }
+{
+    let kind = order_at(words, 1)?;
+    end_at(words, 2)?;
+    Ok(Command::Order(kind))
+}
+
+fn below(words: &[&[u8]]) -> Result<Command, Unclear>
+    ensures answer { λ r. ⌜ asked r ≡ belowAsked (texts (now (words .entry))) ⌝ }
+{
+    let a = role_code_at(words, 1)?;
+    let b = role_code_at(words, 2)?;
+    end_at(words, 3)?;
+    Ok(Command::Below { a, b })
+}
+
+fn under(words: &[&[u8]]) -> Result<Command, Unclear>
+    ensures answer { λ r. ⌜ asked r ≡ underAsked (texts (now (words .entry))) ⌝ }
+{
+    let a = role_set_at(words, 1)?;
+    let b = role_set_at(words, 2)?;
+    end_at(words, 3)?;
+    Ok(Command::Under { a, b })
+}
+
+fn opens(words: &[&[u8]]) -> Result<Command, Unclear>
+    ensures answer { λ r. ⌜ asked r ≡ opensAsked (texts (now (words .entry))) ⌝ }
+{
+    let set = role_set_at(words, 1)?;
+    let roles = role_set_at(words, 2)?;
+    end_at(words, 3)?;
+    Ok(Command::Opens { set, roles })
+}
+
+fn line_of(read: Result<Command, Unclear>) -> Line
+    ensures answer { λ r. ⌜ saidOf r ≡ saidIs (asked read) ⌝ }
+{
+    match read {
+        Ok(command) => Line::Asks(command),
+        Err(unclear) => Line::Unclear(unclear),
+    }
+}
+
+fn draw(heap: Global, words: &[&[u8]]) -> Result<Line, AllocError>
+    requires { ⌜ 0 < length (now words) ⌝ }
+    ensures answer { λ r. ⌜ made r (λ line. saidOf line ≡ saidIs (drawAsked (texts (now (words .entry))))) ⌝ }
+{
+    let mut pairs = Vec::new(heap);
+    let mut first: Option<u32> = None;
+    for place in 1..words.len() {
+        match role_code_at(words, place) {
+            Err(unclear) => return Ok(Line::Unclear(unclear)),
+            Ok(code) => match first {
+                None => first = Some(code),
+                Some(a) => {
+                    pairs.push((a, code))?;
+                    first = None;
+                }
+            },
+        }
+    }
+    match first {
+        None => Ok(Line::Asks(Command::Draw(pairs))),
+        Some(_) => Ok(Line::Unclear(Unclear {
+            word: words.len(),
+            why: Why::Missing,
+        })),
+    }
+}
+
+fn is_note(word: &[u8]) -> bool
+    ensures answer { λ r. ⌜ r ≡ isNote (now (word .entry)) ⌝ }
+{
+    if word.is_empty() {
+        return false;
+    }
+    word[0] == b'#'
+}
+
+fn asked_by(heap: Global, name: Option<Name>, words: &[&[u8]]) -> Result<Line, AllocError>
+    requires { ⌜ 0 < length (now words) ⌝ }
+    ensures answer { λ r. ⌜ made r (λ line. saidOf line ≡ saidIs (askedBy name (texts (now (words .entry))))) ⌝ }
+{
+    let Some(name) = name else {
+        return Ok(Line::Unclear(Unclear {
+            word: 0,
+            why: Why::NotACommand,
+        }));
+    };
+    match name {
+        Name::Order => Ok(line_of(order(words))),
+        Name::Draw => draw(heap, words),
+        Name::Below => Ok(line_of(below(words))),
+        Name::Under => Ok(line_of(under(words))),
+        Name::Opens => Ok(line_of(opens(words))),
+    }
+}
+
+fn said_by(heap: Global, words: &[&[u8]]) -> Result<Line, AllocError>
+    ensures answer { λ r. ⌜ made r (λ line. saidOf line ≡ saidBy (texts (now (words .entry)))) ⌝ }
+{
+    let Some(first) = words.first() else {
+        return Ok(Line::Passed);
+    };
+    if is_note(first) {
+        return Ok(Line::Passed);
+    }
+    asked_by(heap, name_of(first), words)
+}
+
+pub fn read_line(heap: Global, line: &[u8]) -> Result<Line, AllocError>
+    ensures answer { λ r. ⌜ made r (λ read. saidOf read ≡ said (now (line .entry))) ⌝ }
+{
+    let words = cut(heap, line)?;
+    said_by(heap, words.as_slice())
+}
