@@ -114,11 +114,7 @@ pub fn opens<O: Order>(order: &O, set: RoleSet, roles: RoleSet) -> bool
     ensures answer { λ r. ⌜ r ≡ opensTo (below (now (order .entry))) set roles ⌝ }
     ensures says { λ r. ⌜ Decides r (Opens (below (now (order .entry))) set roles) ⌝ }
 {
-    if roles == 0 {
-        false
-    } else {
-        set_below(order, set, roles)
-    }
+    roles != 0 && set_below(order, set, roles)
 }
 
 // Whether the set can stand in a table: it is not empty, and each of its roles is one of the order's.
