@@ -23,8 +23,8 @@ use Rattle.words.specs.declared.line.OrderKind.the-variants.{Drawn, Rights}
 use Rattle.words.specs.declared.line.Unclear.{Unclear}
 use Rattle.words.specs.declared.line.Why.{Why}
 use Rattle.words.specs.declared.line.Why.the-variants.{NotACommand, NotAnOrder, NotARoleCode, NotARoleSet, Missing, TooMany}
-use Rattle.words.specs.declared.read.Name.{Name}
-use Rattle.words.specs.declared.read.Name.the-variants as name
+use Rattle.words.specs.declared.named.Name.{Name}
+use Rattle.words.specs.declared.named.Name.the-variants as name
 use Rattle.words.specs.Cutting.{wordsOf}
 use Rattle.words.specs.Spelling.{roleCode, roleSet}
 

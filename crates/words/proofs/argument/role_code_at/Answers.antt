@@ -2,7 +2,7 @@ use Rattle.words.specs.declared.line.Why.the-variants.{NotARoleCode}
 use Rattle.words.specs.Spelling.{roleCode}
 use Rattle.words.specs.Saying.{codeAt}
 use Rattle.words.proofs.Places.{read-at, missing-at}
-use Rattle.words.proofs.read.role_code_at.Needs as need
+use Rattle.words.proofs.argument.role_code_at.Needs as need
 
 pub returns-in-Some : need.returns-in-Some
 unfolding codeAt

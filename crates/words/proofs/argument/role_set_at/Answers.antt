@@ -2,7 +2,7 @@ use Rattle.words.specs.declared.line.Why.the-variants.{NotARoleSet}
 use Rattle.words.specs.Spelling.{roleSet}
 use Rattle.words.specs.Saying.{setAt}
 use Rattle.words.proofs.Places.{read-at, missing-at}
-use Rattle.words.proofs.read.role_set_at.Needs as need
+use Rattle.words.proofs.argument.role_set_at.Needs as need
 
 pub returns-in-Some : need.returns-in-Some
 unfolding setAt

@@ -1,7 +1,7 @@
 use Rattle.words.specs.declared.line.Why.the-variants.{NotAnOrder}
 use Rattle.words.specs.Saying.{orderOf, orderAt}
 use Rattle.words.proofs.Places.{read-at, missing-at}
-use Rattle.words.proofs.read.order_at.Needs as need
+use Rattle.words.proofs.argument.order_at.Needs as need
 
 pub returns-in-Some : need.returns-in-Some
 unfolding orderAt
