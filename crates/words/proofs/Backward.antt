@@ -22,6 +22,7 @@ own : Numerals (λ ds. allDigits ds ≡ true) worth
 own = numerals-by-weight _ tells-allDigits worth (search needs)
 
 numeral-is : (ds : List ℕ) → 0 < length ds → allDigits ds ≡ true → numeral ds ≡ Some (worth ds)
+unfolding numeral
 numeral-is [] some all = absurd (omega arith)
 numeral-is (d ∷ ds) some all = cond-true _ _ _ all
 

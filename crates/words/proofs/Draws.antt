@@ -87,6 +87,7 @@ module _ {done : List (ℕ × ℕ)} {first : Option ℕ} {place : ℕ} {words : 
   module _ (here : place < length words) where
     -- what the word at `place` spells, before the words behind it
     at-code : (r : Result ℕ Unclear) → r ≡ codeAt words place → onto done (step first place r (drop (place + 1) words)) ≡ pairsFrom 1 (drop 1 words)
+    unfolding codeAt
     at-code r read =
         let same : r ≡ code place (getD words place []) = read ∙ ap (wanted roleCode NotARoleCode place) (nth-getD words place [] here) in
         ap (λ q. onto done (step first place q (drop (place + 1) words))) same

@@ -59,6 +59,7 @@ scan-is most v (b ∷ bs) le = by-digit (λ n fits. scan-is most n bs fits) (asc
     by-digit rest false e = cond-false _ _ _ e ∙ sym (cond-false _ _ _ (and-left _ _ e))
 
 pub scanned : (most : ℕ) (word : List ℕ) → 0 < length word → scan most 0 word ≡ atMost most (numeral word)
+unfolding numeral
 scanned most [] some = absurd (omega arith)
 scanned most (b ∷ bs) some =
     let zero-all : 0 * 10 ^ suc (length bs) + worth (b ∷ bs) ≡ worth (b ∷ bs) = omega arith in
@@ -84,3 +85,8 @@ module _ (most v : ℕ) (word : List ℕ) (i : ℕ) (here : i < length word) whe
 
 pub ended : (most v : ℕ) (word : List ℕ) (i : ℕ) → length word ≤ i → scan most v (drop i word) ≡ Some v
 ended most v word i past = at-drop-all (scan most v) word i past
+
+pub no-digits : (most : ℕ) (word : List ℕ) → length word ≡ 0 → None ≡ atMost most (numeral word)
+unfolding numeral
+no-digits most [] none = refl
+no-digits most (b ∷ bs) none = absurd (omega arith)

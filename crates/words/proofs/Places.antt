@@ -39,7 +39,9 @@ module _ {A : Type 0} (reads : List ℕ → Option A) (w : Why) (words : List (R
   missing-at past = sym (ap (wanted reads w place) (nth-past (texts words) place (omega (arith, length-texts words))))
 
 pub too-many-at : (words : List (RefT (List ℕ))) (place : ℕ) → place < length words → Err (fault place TooMany) ≡ endAt (texts words) place
+unfolding endAt
 too-many-at words place more = sym (cond-true _ _ _ (lt-ltb place (length (texts words)) (omega (arith, length-texts words))))
 
 pub ends-at : (words : List (RefT (List ℕ))) (place : ℕ) → length words ≤ place → Ok tt ≡ endAt (texts words) place
+unfolding endAt
 ends-at words place past = sym (cond-false _ _ _ (le-ltb place (length (texts words)) (omega (arith, length-texts words))))

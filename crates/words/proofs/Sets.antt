@@ -54,8 +54,14 @@ one-alone None = refl
 one-alone (Some t) = ap Some (or-zero-r t)
 
 all-roles : (inner : List ℕ) → 0 < length inner → allRoles (stretches isComma inner) ≡ rolesIn inner
+unfolding rolesIn
 all-roles [] some = absurd (omega arith)
 all-roles (b ∷ bs) some = refl
+
+pub no-roles : (inner : List ℕ) → length inner ≡ 0 → Some 0 ≡ rolesIn inner
+unfolding rolesIn
+no-roles [] none = refl
+no-roles (b ∷ bs) none = absurd (omega arith)
 
 -- the loop's invariant: what is read, and what is ahead, are the whole set
 pub record Sofar (set start i : ℕ) (inner : List ℕ) : Type 0 where

@@ -30,3 +30,7 @@ Lines-hold-words = (line : List ℕ) → All Word (wordsOf line)
 -- Words that are written as a line are the words of that line.
 abbrev pub Words-read-back : Type 0
 Words-read-back = (words : List (List ℕ)) → All Word words → wordsOf (spaced words) ≡ words
+
+-- All three.
+abbrev pub Reads-back : Type 0
+Reads-back = Codes-read-back × Lines-hold-words × Words-read-back

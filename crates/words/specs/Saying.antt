@@ -23,8 +23,8 @@ use Rattle.words.specs.declared.line.OrderKind.the-variants.{Drawn, Rights}
 use Rattle.words.specs.declared.line.Unclear.{Unclear}
 use Rattle.words.specs.declared.line.Why.{Why}
 use Rattle.words.specs.declared.line.Why.the-variants.{NotACommand, NotAnOrder, NotARoleCode, NotARoleSet, Missing, TooMany}
-use Rattle.words.specs.declared.read.Name.{Name}
-use Rattle.words.specs.declared.read.Name.the-variants as name
+use Rattle.words.specs.declared.named.Name.{Name}
+use Rattle.words.specs.declared.named.Name.the-variants as name
 use Rattle.words.specs.Cutting.{wordsOf}
 use Rattle.words.specs.Spelling.{roleCode, roleSet}
 
@@ -70,16 +70,16 @@ abbrev pub orderOf : List ℕ → Option OrderKind
 orderOf word = cond (sameBytes word (codes "drawn")) (Some Drawn) (cond (sameBytes word (codes "rights")) (Some Rights) None)
 
 -- What stands at a place: the name of an order, a role's code, a set of roles, or nothing more.
-abbrev pub orderAt : List (List ℕ) → ℕ → Result OrderKind Unclear
+unfoldable pub orderAt : List (List ℕ) → ℕ → Result OrderKind Unclear
 orderAt words place = wanted orderOf NotAnOrder place (nth words place)
 
-abbrev pub codeAt : List (List ℕ) → ℕ → Result ℕ Unclear
+unfoldable pub codeAt : List (List ℕ) → ℕ → Result ℕ Unclear
 codeAt words place = wanted roleCode NotARoleCode place (nth words place)
 
-abbrev pub setAt : List (List ℕ) → ℕ → Result ℕ Unclear
+unfoldable pub setAt : List (List ℕ) → ℕ → Result ℕ Unclear
 setAt words place = wanted roleSet NotARoleSet place (nth words place)
 
-abbrev pub endAt : List (List ℕ) → ℕ → Result (Unit {0}) Unclear
+unfoldable pub endAt : List (List ℕ) → ℕ → Result (Unit {0}) Unclear
 endAt words place = cond (ltb place (length words)) (Err (fault place TooMany)) (Ok tt)
 
 -- `order NAME`

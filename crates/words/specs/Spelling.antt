@@ -17,7 +17,7 @@ worth [] = 0
 worth (d ∷ ds) = (d - 48) * 10 ^ length ds + worth ds
 
 -- The number that a word of decimal digits spells, at least one digit and nothing else.
-abbrev pub numeral : List ℕ → Option ℕ
+unfoldable pub numeral : List ℕ → Option ℕ
 numeral [] = None
 numeral (d ∷ ds) = cond (allDigits (d ∷ ds)) (Some (worth (d ∷ ds))) None
 
@@ -55,7 +55,7 @@ allRoles [] = Some 0
 allRoles (w ∷ ws) = joined (oneRole w) (allRoles ws)
 
 -- What stands between a set's braces: nothing at all, or roles with commas between them.
-abbrev pub rolesIn : List ℕ → Option ℕ
+unfoldable pub rolesIn : List ℕ → Option ℕ
 rolesIn [] = Some 0
 rolesIn (b ∷ bs) = allRoles (stretches isComma (b ∷ bs))
 

@@ -1,15 +1,16 @@
 // What a line of the console's input says, and how an answer is written.
 mod answer;
+mod argument;
 mod cut;
 mod laws;
 mod line;
+mod named;
 mod read;
 mod spelled;
 
 pub use answer::Answer;
 pub use answer::AnswerDisplay;
-pub use laws::codes_read_back;
-pub use laws::words_read_back;
+pub use laws::reads_back;
 pub use line::Command;
 pub use line::Line;
 pub use line::OrderKind;

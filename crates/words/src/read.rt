@@ -3,121 +3,21 @@ ghost use mathlib.Core.Path.{_≡_};
 ghost use Prim.Native.Nat.{_<_};
 ghost use lib.ListN.{length};
 ghost use Rattle.std.specs.Vec.{made};
-ghost use Rattle.std.specs.shelf.Text.{sameBytes};
 ghost use Rattle.words.specs.Cutting.{texts};
-ghost use Rattle.words.specs.Saying.{nameOf, orderOf, orderAt, codeAt, setAt, endAt, orderAsked, belowAsked, underAsked, opensAsked, drawAsked, asked, askedBy, saidIs, isNote, saidBy, said, saidOf};
+ghost use Rattle.words.specs.Saying.{orderAsked, belowAsked, underAsked, opensAsked, drawAsked, asked, askedBy, saidIs, isNote, saidBy, said, saidOf};
+use super::argument::end_at;
+use super::argument::order_at;
+use super::argument::role_code_at;
+use super::argument::role_set_at;
 use super::cut::cut;
 use super::line::Command;
 use super::line::Line;
-use super::line::OrderKind;
 use super::line::Unclear;
 use super::line::Why;
-use super::spelled::role_code;
-use super::spelled::role_set;
+use super::named::Name;
+use super::named::name_of;
 use std::alloc::AllocError;
 use std::alloc::Global;
-
-#[derive(Clone, Copy)]
-pub enum Name {
-    Order,
-    Draw,
-    Below,
-    Under,
-    Opens,
-}
-
-fn spells(word: &[u8], text: &str) -> bool
-    ensures answer { λ r. ⌜ r ≡ sameBytes (now (word .entry)) (now (text .entry)) ⌝ }
-{
-    word == text.as_bytes()
-}
-
-fn name_of(word: &[u8]) -> Option<Name>
-    ensures answer { λ r. ⌜ r ≡ nameOf (now (word .entry)) ⌝ }
-{
-    if spells(word, "order") {
-        Some(Name::Order)
-    } else if spells(word, "draw") {
-        Some(Name::Draw)
-    } else if spells(word, "below") {
-        Some(Name::Below)
-    } else if spells(word, "under") {
-        Some(Name::Under)
-    } else if spells(word, "opens") {
-        Some(Name::Opens)
-    } else {
-        None
-    }
-}
-
-fn order_of(word: &[u8]) -> Option<OrderKind>
-    ensures answer { λ r. ⌜ r ≡ orderOf (now (word .entry)) ⌝ }
-{
-    if spells(word, "drawn") {
-        Some(OrderKind::Drawn)
-    } else if spells(word, "rights") {
-        Some(OrderKind::Rights)
-    } else {
-        None
-    }
-}
-
-fn order_at(words: &[&[u8]], place: usize) -> Result<OrderKind, Unclear>
-    ensures answer { λ r. ⌜ r ≡ orderAt (texts (now (words .entry))) place ⌝ }
-{
-    match words.get(place) {
-        Some(word) => order_of(word).ok_or(Unclear {
-            word: place,
-            why: Why::NotAnOrder,
-        }),
-        None => Err(Unclear {
-            word: place,
-            why: Why::Missing,
-        }),
-    }
-}
-
-fn role_code_at(words: &[&[u8]], place: usize) -> Result<u32, Unclear>
-    ensures answer { λ r. ⌜ r ≡ codeAt (texts (now (words .entry))) place ⌝ }
-{
-    match words.get(place) {
-        Some(word) => role_code(word).ok_or(Unclear {
-            word: place,
-            why: Why::NotARoleCode,
-        }),
-        None => Err(Unclear {
-            word: place,
-            why: Why::Missing,
-        }),
-    }
-}
-
-fn role_set_at(words: &[&[u8]], place: usize) -> Result<u64, Unclear>
-    ensures answer { λ r. ⌜ r ≡ setAt (texts (now (words .entry))) place ⌝ }
-{
-    match words.get(place) {
-        Some(word) => role_set(word).ok_or(Unclear {
-            word: place,
-            why: Why::NotARoleSet,
-        }),
-        None => Err(Unclear {
-            word: place,
-            why: Why::Missing,
-        }),
-    }
-}
-
-fn end_at(words: &[&[u8]], place: usize) -> Result<(), Unclear>
-    ensures answer { λ r. ⌜ r ≡ endAt (texts (now (words .entry))) place ⌝ }
-{
-    if place < words.len() {
-        return Err(Unclear {
-            word: place,
-            why: Why::TooMany,
-        });
-    }
-    Ok(())
-}
 
 fn order(words: &[&[u8]]) -> Result<Command, Unclear>
     ensures answer { λ r. ⌜ asked r ≡ orderAsked (texts (now (words .entry))) ⌝ }
@@ -163,6 +63,7 @@ fn line_of(read: Result<Command, Unclear>) -> Line
     }
 }
 
+// A code waits in `first` until the second of its pair is read.
 fn draw(heap: Global, words: &[&[u8]]) -> Result<Line, AllocError>
     requires { ⌜ 0 < length (now words) ⌝ }
     ensures answer { λ r. ⌜ made r (λ line. saidOf line ≡ saidIs (drawAsked (texts (now (words .entry))))) ⌝ }
@@ -190,6 +91,7 @@ fn draw(heap: Global, words: &[&[u8]]) -> Result<Line, AllocError>
     }
 }
 
+// A note is for a reader of the input, and asks nothing.
 fn is_note(word: &[u8]) -> bool
     ensures answer { λ r. ⌜ r ≡ isNote (now (word .entry)) ⌝ }
 {
@@ -199,6 +101,7 @@ fn is_note(word: &[u8]) -> bool
     word[0] == b'#'
 }
 
+// The words are those of the command, its name among them.
 fn asked_by(heap: Global, name: Option<Name>, words: &[&[u8]]) -> Result<Line, AllocError>
     requires { ⌜ 0 < length (now words) ⌝ }
     ensures answer { λ r. ⌜ made r (λ line. saidOf line ≡ saidIs (askedBy name (texts (now (words .entry))))) ⌝ }
@@ -230,6 +133,7 @@ fn said_by(heap: Global, words: &[&[u8]]) -> Result<Line, AllocError>
     asked_by(heap, name_of(first), words)
 }
 
+// What one line of input says. Want of memory is the only error.
 pub fn read_line(heap: Global, line: &[u8]) -> Result<Line, AllocError>
     ensures answer { λ r. ⌜ made r (λ read. saidOf read ≡ said (now (line .entry))) ⌝ }
 {

@@ -22,19 +22,12 @@ fn number(word: &[u8], most: u32) -> Option<u32>
     Some(value as u32)
 }
 
-pub fn role_code(word: &[u8]) -> Option<u32>
-    ensures answer { λ r. ⌜ r ≡ roleCode (now (word .entry)) ⌝ }
+// The set of one role.
+fn one_role(word: &[u8]) -> Option<u64>
+    ensures answer { λ r. ⌜ r ≡ oneRole (now (word .entry)) ⌝ }
 {
-    number(word, u32::MAX)
-}
-
-pub fn role_set(word: &[u8]) -> Option<u64>
-    ensures answer { λ r. ⌜ r ≡ roleSet (now (word .entry)) ⌝ }
-{
-    match word {
-        [b'{', .., b'}'] => roles(&word[1..word.len() - 1]),
-        _ => None,
-    }
+    let role = number(word, 63)?;
+    Some(1 << role)
 }
 
 // The set of the roles between two braces.
@@ -55,10 +48,17 @@ fn roles(inner: &[u8]) -> Option<u64>
     Some(set | one_role(&inner[start..])?)
 }
 
-// The set of one role.
-fn one_role(word: &[u8]) -> Option<u64>
-    ensures answer { λ r. ⌜ r ≡ oneRole (now (word .entry)) ⌝ }
+pub fn role_code(word: &[u8]) -> Option<u32>
+    ensures answer { λ r. ⌜ r ≡ roleCode (now (word .entry)) ⌝ }
 {
-    let role = number(word, 63)?;
-    Some(1 << role)
+    number(word, u32::MAX)
+}
+
+pub fn role_set(word: &[u8]) -> Option<u64>
+    ensures answer { λ r. ⌜ r ≡ roleSet (now (word .entry)) ⌝ }
+{
+    match word {
+        [b'{', .., b'}'] => roles(&word[1..word.len() - 1]),
+        _ => None,
+    }
 }

@@ -2,9 +2,12 @@ use mathlib.Core.Path.{_≡_, sym, ap, _∙_}
 use Prim.Native.Nat.{ℕ, _+_, _*_, _<_}
 use native.Mathlib.Omega.{arith}
 use lib.ListN.{length, drop}
-use borrow.Author.Tests.{false-eqb}
-use Rattle.words.proofs.Numbers.{scan, scanned, no-digit, over, onward, ended}
+use borrow.Author.Tests.{true-eqb, false-eqb}
+use Rattle.words.proofs.Numbers.{scan, scanned, no-digit, no-digits, over, onward, ended}
 use Rattle.words.proofs.spelled.number.Needs as need
+
+pub returns-then-is-empty : need.returns-then-is-empty
+returns-then-is-empty c = record { answer = no-digits (c .args .most) (c .args .word .now) (true-eqb _ 0 (c .if-is-empty .ensures tt)) }
 
 pub returns-then-not-is-ascii-digit : need.returns-then-not-is-ascii-digit
 returns-then-not-is-ascii-digit c =

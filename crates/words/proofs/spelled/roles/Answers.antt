@@ -1,10 +1,13 @@
 use mathlib.Core.Path.{_∙_}
 use native.Mathlib.Omega.{arith}
-use borrow.Author.Tests.{false-eqb}
+use borrow.Author.Tests.{true-eqb, false-eqb}
 use Rattle.std.specs.declared.option.Option.the-variants.{Some, None}
-use Rattle.words.proofs.Sets.{none-yet, at-last, no-role, one-more, same-role}
+use Rattle.words.proofs.Sets.{none-yet, at-last, no-role, no-roles, one-more, same-role}
 use Rattle.words.proofs.spelled.roles.Needs as need
 use Rattle.words.proofs.spelled.roles.Needs.{then-byte-eq44·in-Continue-set, else-byte-eq44}
+
+pub returns-then-is-empty : need.returns-then-is-empty
+returns-then-is-empty c = record { answer = no-roles (c .args .inner .now) (true-eqb _ 0 (c .if-is-empty .ensures tt)) }
 
 pub loop-i-holds : need.loop-i-holds
 loop-i-holds c = none-yet (c .args .inner .now)

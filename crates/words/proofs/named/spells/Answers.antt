@@ -1,7 +1,7 @@
 use borrow.Author.Needs.{needs}
 use Rattle.std.proofs.shelf.Equals.{sameBytes-decides, matches-decides}
 use Rattle.std.proofs.shelf.Ways.{same-from-decides}
-use Rattle.words.proofs.read.spells.Needs as need
+use Rattle.words.proofs.named.spells.Needs as need
 
 pub returns : need.returns
 returns c =

@@ -1,0 +1,5 @@
+use Rattle.words.proofs.Backward.{codes-read-back, lines-hold-words, words-read-back}
+use Rattle.words.proofs.laws.reads_back.Needs as need
+
+pub returns : need.returns
+returns c = record { answer = (codes-read-back, lines-hold-words, words-read-back) }

@@ -1,0 +1,68 @@
+// Reads the word at one place of a line as what is wanted there.
+ghost use mathlib.Core.Path.{_≡_};
+ghost use Rattle.words.specs.Cutting.{texts};
+ghost use Rattle.words.specs.Saying.{orderAt, codeAt, setAt, endAt};
+use super::line::OrderKind;
+use super::line::Unclear;
+use super::line::Why;
+use super::named::order_of;
+use super::spelled::role_code;
+use super::spelled::role_set;
+
+pub fn order_at(words: &[&[u8]], place: usize) -> Result<OrderKind, Unclear>
+    ensures answer { λ r. ⌜ r ≡ orderAt (texts (now (words .entry))) place ⌝ }
+{
+    match words.get(place) {
+        Some(word) => order_of(word).ok_or(Unclear {
+            word: place,
+            why: Why::NotAnOrder,
+        }),
+        None => Err(Unclear {
+            word: place,
+            why: Why::Missing,
+        }),
+    }
+}
+
+pub fn role_code_at(words: &[&[u8]], place: usize) -> Result<u32, Unclear>
+    ensures answer { λ r. ⌜ r ≡ codeAt (texts (now (words .entry))) place ⌝ }
+{
+    match words.get(place) {
+        Some(word) => role_code(word).ok_or(Unclear {
+            word: place,
+            why: Why::NotARoleCode,
+        }),
+        None => Err(Unclear {
+            word: place,
+            why: Why::Missing,
+        }),
+    }
+}
+
+pub fn role_set_at(words: &[&[u8]], place: usize) -> Result<u64, Unclear>
+    ensures answer { λ r. ⌜ r ≡ setAt (texts (now (words .entry))) place ⌝ }
+{
+    match words.get(place) {
+        Some(word) => role_set(word).ok_or(Unclear {
+            word: place,
+            why: Why::NotARoleSet,
+        }),
+        None => Err(Unclear {
+            word: place,
+            why: Why::Missing,
+        }),
+    }
+}
+
+// No word stands there.
+pub fn end_at(words: &[&[u8]], place: usize) -> Result<(), Unclear>
+    ensures answer { λ r. ⌜ r ≡ endAt (texts (now (words .entry))) place ⌝ }
+{
+    if place < words.len() {
+        return Err(Unclear {
+            word: place,
+            why: Why::TooMany,
+        });
+    }
+    Ok(())
+}
