@@ -1,0 +1,3 @@
+pub mod Groups
+pub mod Turns
+pub mod Encodings
