@@ -1,4 +1,5 @@
 pub mod Backward
+pub mod Chains
 pub mod Cuts
 pub mod Draws
 pub mod Lines
