@@ -1,5 +1,4 @@
 pub mod Backward
-pub mod Chains
 pub mod Cuts
 pub mod Draws
 pub mod Lines

@@ -56,22 +56,18 @@ abbrev pub wanted : {A : Type 0} → (List ℕ → Option A) → Why → ℕ →
 wanted reads w place None = Err (fault place Missing)
 wanted reads w place (Some word) = okOr (reads word) (fault place w)
 
--- The same bytes in the same order.
-unfoldable pub same : List ℕ → List ℕ → Bool
-same word text = sameBytes word text
-
 -- The names of the commands.
 abbrev pub nameOf : List ℕ → Option Name
 nameOf word =
-    cond (same word (codes "order")) (Some name.Order)
-    (cond (same word (codes "draw")) (Some name.Draw)
-    (cond (same word (codes "below")) (Some name.Below)
-    (cond (same word (codes "under")) (Some name.Under)
-    (cond (same word (codes "opens")) (Some name.Opens) None))))
+    cond (sameBytes word (codes "order")) (Some name.Order)
+    (cond (sameBytes word (codes "draw")) (Some name.Draw)
+    (cond (sameBytes word (codes "below")) (Some name.Below)
+    (cond (sameBytes word (codes "under")) (Some name.Under)
+    (cond (sameBytes word (codes "opens")) (Some name.Opens) None))))
 
 -- The names of the orders.
 abbrev pub orderOf : List ℕ → Option OrderKind
-orderOf word = cond (same word (codes "drawn")) (Some Drawn) (cond (same word (codes "rights")) (Some Rights) None)
+orderOf word = cond (sameBytes word (codes "drawn")) (Some Drawn) (cond (sameBytes word (codes "rights")) (Some Rights) None)
 
 -- What stands at a place: the name of an order, a role's code, a set of roles, or nothing more.
 unfoldable pub orderAt : List (List ℕ) → ℕ → Result OrderKind Unclear

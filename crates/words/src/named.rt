@@ -1,6 +1,7 @@
 // The names of the commands and of the orders.
 ghost use mathlib.Core.Path.{_≡_};
-ghost use Rattle.words.specs.Saying.{same, nameOf, orderOf};
+ghost use Rattle.std.specs.shelf.Text.{sameBytes};
+ghost use Rattle.words.specs.Saying.{nameOf, orderOf};
 use super::line::OrderKind;
 
 #[derive(Clone, Copy)]
@@ -13,7 +14,7 @@ pub enum Name {
 }
 
 fn spells(word: &[u8], text: &str) -> bool
-    ensures answer { λ r. ⌜ r ≡ same (now (word .entry)) (now (text .entry)) ⌝ }
+    ensures answer { λ r. ⌜ r ≡ sameBytes (now (word .entry)) (now (text .entry)) ⌝ }
 {
     word == text.as_bytes()
 }
