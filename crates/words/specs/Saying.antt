@@ -69,16 +69,19 @@ nameOf word =
 abbrev pub orderOf : List ℕ → Option OrderKind
 orderOf word = cond (sameBytes word (codes "drawn")) (Some Drawn) (cond (sameBytes word (codes "rights")) (Some Rights) None)
 
--- What stands at a place: the name of an order, a role's code, a set of roles, or nothing more.
+-- The order whose name stands at a place.
 unfoldable pub orderAt : List (List ℕ) → ℕ → Result OrderKind Unclear
 orderAt words place = wanted orderOf NotAnOrder place (nth words place)
 
+-- The role's code that stands at a place.
 unfoldable pub codeAt : List (List ℕ) → ℕ → Result ℕ Unclear
 codeAt words place = wanted roleCode NotARoleCode place (nth words place)
 
+-- The set of roles that stands at a place.
 unfoldable pub setAt : List (List ℕ) → ℕ → Result ℕ Unclear
 setAt words place = wanted roleSet NotARoleSet place (nth words place)
 
+-- The line ends before this place.
 unfoldable pub endAt : List (List ℕ) → ℕ → Result (Unit {0}) Unclear
 endAt words place = cond (ltb place (length words)) (Err (fault place TooMany)) (Ok tt)
 
@@ -138,7 +141,7 @@ saidBy (w ∷ ws) = cond (isNote w) passed (saidIs (askedBy (nameOf w) (w ∷ ws
 abbrev pub said : List ℕ → Said
 said bytes = saidBy (wordsOf bytes)
 
--- What the program's own values mean.
+-- What a command asks, as the program holds it.
 abbrev pub askedOf : Command → Asked
 askedOf (command.Order kind) = order kind
 askedOf (command.Draw pairs) = draw (vec-items pairs)
@@ -146,10 +149,12 @@ askedOf (command.Below a b) = below a b
 askedOf (command.Under a b) = under a b
 askedOf (command.Opens a b) = opens a b
 
+-- The same where a fault may stand in its place.
 abbrev pub asked : Result Command Unclear → Result Asked Unclear
 asked (Ok c) = Ok (askedOf c)
 asked (Err u) = Err u
 
+-- What a line says, as the program holds it.
 abbrev pub saidOf : Line → Said
 saidOf line.Passed = passed
 saidOf (line.Asks c) = asks (askedOf c)

@@ -54,7 +54,7 @@ pub fn role_set_at(words: &[&[u8]], place: usize) -> Result<u64, Unclear>
     }
 }
 
-// No word stands there.
+// The line has to end before this place.
 pub fn end_at(words: &[&[u8]], place: usize) -> Result<(), Unclear>
     ensures answer { λ r. ⌜ r ≡ endAt (texts (now (words .entry))) place ⌝ }
 {
