@@ -9,7 +9,7 @@ use super::named::order_of;
 use super::spelled::role_code;
 use super::spelled::role_set;
 
-pub fn order_at(words: &[&[u8]], place: usize) -> Result<OrderKind, Unclear>
+pub(crate) fn order_at(words: &[&[u8]], place: usize) -> Result<OrderKind, Unclear>
     ensures answer { λ r. ⌜ r ≡ orderAt (texts (now (words .entry))) place ⌝ }
 {
     match words.get(place) {
@@ -24,7 +24,7 @@ pub fn order_at(words: &[&[u8]], place: usize) -> Result<OrderKind, Unclear>
     }
 }
 
-pub fn role_code_at(words: &[&[u8]], place: usize) -> Result<u32, Unclear>
+pub(crate) fn role_code_at(words: &[&[u8]], place: usize) -> Result<u32, Unclear>
     ensures answer { λ r. ⌜ r ≡ codeAt (texts (now (words .entry))) place ⌝ }
 {
     match words.get(place) {
@@ -39,7 +39,7 @@ pub fn role_code_at(words: &[&[u8]], place: usize) -> Result<u32, Unclear>
     }
 }
 
-pub fn role_set_at(words: &[&[u8]], place: usize) -> Result<u64, Unclear>
+pub(crate) fn role_set_at(words: &[&[u8]], place: usize) -> Result<u64, Unclear>
     ensures answer { λ r. ⌜ r ≡ setAt (texts (now (words .entry))) place ⌝ }
 {
     match words.get(place) {
@@ -55,7 +55,7 @@ pub fn role_set_at(words: &[&[u8]], place: usize) -> Result<u64, Unclear>
 }
 
 // The line has to end before this place.
-pub fn end_at(words: &[&[u8]], place: usize) -> Result<(), Unclear>
+pub(crate) fn end_at(words: &[&[u8]], place: usize) -> Result<(), Unclear>
     ensures answer { λ r. ⌜ r ≡ endAt (texts (now (words .entry))) place ⌝ }
 {
     if place < words.len() {

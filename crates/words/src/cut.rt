@@ -12,7 +12,7 @@ fn is_blank(byte: u8) -> bool
     matches!(byte, b' ' | b'\t' | b'\r')
 }
 
-pub fn cut<'a>(heap: Global, line: &'a [u8]) -> Result<Vec<&'a [u8]>, AllocError>
+pub(crate) fn cut<'a>(heap: Global, line: &'a [u8]) -> Result<Vec<&'a [u8]>, AllocError>
     ensures answer { λ r. ⌜ made r (λ words. texts (vec-items words) ≡ wordsOf (now (line .entry))) ⌝ }
 {
     let mut words = Vec::new(heap);

@@ -1,8 +1,7 @@
 // What holds of every line and every word. The function is here for its contract.
 ghost use Rattle.words.specs.Laws.{Reads-back};
 
-pub fn reads_back() -> u8
-    ensures answer { λ _. ⌜ Reads-back ⌝ }
+pub fn reads_back()
+    ensures laws { λ _. ⌜ Reads-back ⌝ }
 {
-    0
 }

@@ -19,7 +19,7 @@ fn spells(word: &[u8], text: &str) -> bool
     word == text.as_bytes()
 }
 
-pub fn name_of(word: &[u8]) -> Option<Name>
+pub(crate) fn name_of(word: &[u8]) -> Option<Name>
     ensures answer { λ r. ⌜ r ≡ nameOf (now (word .entry)) ⌝ }
 {
     if spells(word, "order") {
@@ -37,7 +37,7 @@ pub fn name_of(word: &[u8]) -> Option<Name>
     }
 }
 
-pub fn order_of(word: &[u8]) -> Option<OrderKind>
+pub(crate) fn order_of(word: &[u8]) -> Option<OrderKind>
     ensures answer { λ r. ⌜ r ≡ orderOf (now (word .entry)) ⌝ }
 {
     if spells(word, "drawn") {

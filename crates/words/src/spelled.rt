@@ -48,13 +48,13 @@ fn roles(inner: &[u8]) -> Option<u64>
     Some(set | one_role(&inner[start..])?)
 }
 
-pub fn role_code(word: &[u8]) -> Option<u32>
+pub(crate) fn role_code(word: &[u8]) -> Option<u32>
     ensures answer { λ r. ⌜ r ≡ roleCode (now (word .entry)) ⌝ }
 {
     number(word, u32::MAX)
 }
 
-pub fn role_set(word: &[u8]) -> Option<u64>
+pub(crate) fn role_set(word: &[u8]) -> Option<u64>
     ensures answer { λ r. ⌜ r ≡ roleSet (now (word .entry)) ⌝ }
 {
     match word {

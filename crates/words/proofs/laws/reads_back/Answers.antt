@@ -2,4 +2,4 @@ use Rattle.words.proofs.Backward.{codes-read-back, lines-hold-words, words-rea
 use Rattle.words.proofs.laws.reads_back.Needs as need
 
 pub returns : need.returns
-returns c = record { answer = (codes-read-back, lines-hold-words, words-read-back) }
+returns c = record { laws = (codes-read-back, lines-hold-words, words-read-back) }
