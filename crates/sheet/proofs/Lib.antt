@@ -1,0 +1,2 @@
+pub mod Skips
+pub mod Handed

@@ -1,0 +1,12 @@
+// The sheet: the binary form in which an office files a whole house, and a reader that goes over it without copying it.
+mod finding;
+mod frame;
+mod kinds;
+mod line;
+mod reading;
+
+pub use frame::Frame;
+pub use frame::Reader;
+pub use kinds::LineKind;
+pub use line::Line;
+pub use line::PlacedLine;
