@@ -1,4 +1,4 @@
 pub mod Fields
 pub mod Kinds
-pub mod Runs
+pub mod Rows
 pub mod Showing
