@@ -1,2 +1,5 @@
 pub mod Skips
 pub mod Handed
+pub mod Inversions
+pub mod Spelled
+pub mod Whole

@@ -2,6 +2,7 @@
 mod finding;
 mod frame;
 mod kinds;
+mod laws;
 mod line;
 mod reading;
 mod rows;
@@ -9,6 +10,7 @@ mod rows;
 pub use frame::Frame;
 pub use frame::Reader;
 pub use kinds::LineKind;
+pub use laws::sheet_laws;
 pub use line::Line;
 pub use line::PlacedLine;
 pub use rows::CommandRow;
