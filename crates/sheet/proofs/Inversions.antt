@@ -48,38 +48,38 @@ at-parts : (bytes : List ℕ) (place : ℕ) (f : Found) (code : Number) (k : Lin
     → readNumber (limitOf Narrow) place bytes ≡ Ok code → kindOf (code .value) ≡ Some k → fieldsEnd (widths k) (code .next) bytes ≡ Ok end
     → record { kind = k; place = place; start = code .next; end = end } ≡ f → Parts bytes place f
 at-parts bytes place f code k end r o e same = subst (Parts bytes place) same (record {
-    code = code;
-    read = r;
-    known = o;
-    passed = e;
-    begins = refl;
-    starts = refl;
-  })
+  code = code;
+  read = r;
+  known = o;
+  passed = e;
+  begins = refl;
+  starts = refl;
+})
 
 pub parts : (bytes : List ℕ) (place : ℕ) (f : Found) → readLine place bytes ≡ Ok (Some f) → Parts bytes place f
 parts bytes place f e =
     elim (cases-eq place (length bytes)) [
-      inl same ↦ absurd (never f (sym (cond-true (eqb place (length bytes)) (Ok None) _ (eq-eqb place (length bytes) same)) ∙ e))
-    | inr other ↦
-        let h = sym (cond-false (eqb place (length bytes)) (Ok None) _ (ne-eqb place (length bytes) other)) ∙ e in
-        let r = ok-first (readNumber (limitOf Narrow) place bytes) _ (Some f) h in
-        let k = known-first (r .0 .next - 1) (kindOf (r .0 .value)) _ (Some f) (r .2) in
-        let t = ok-first (fieldsEnd (widths (k .0)) (r .0 .next) bytes) _ (Some f) (k .2) in
-        at-parts bytes place f (r .0) (k .0) (t .0) (r .1) (k .1) (t .1)
-        (inner (record { kind = k .0; place = place; start = r .0 .next; end = t .0 }) f (t .2))
+      | inl same ↦ absurd (never f (sym (cond-true (eqb place (length bytes)) (Ok None) _ (eq-eqb place (length bytes) same)) ∙ e))
+      | inr other ↦
+          let h = sym (cond-false (eqb place (length bytes)) (Ok None) _ (ne-eqb place (length bytes) other)) ∙ e in
+          let r = ok-first (readNumber (limitOf Narrow) place bytes) _ (Some f) h in
+          let k = known-first (r .0 .next - 1) (kindOf (r .0 .value)) _ (Some f) (r .2) in
+          let t = ok-first (fieldsEnd (widths (k .0)) (r .0 .next) bytes) _ (Some f) (k .2) in
+          at-parts bytes place f (r .0) (k .0) (t .0) (r .1) (k .1) (t .1)
+          (inner (record { kind = k .0; place = place; start = r .0 .next; end = t .0 }) f (t .2))
     ]
 
 -- none at the end only
 pub none-at-end : (bytes : List ℕ) (place : ℕ) → readLine place bytes ≡ Ok None → place ≡ length bytes
 none-at-end bytes place e =
     elim (cases-eq place (length bytes)) [
-      inl same ↦ same
-    | inr other ↦
-        let h = sym (cond-false (eqb place (length bytes)) (Ok None) _ (ne-eqb place (length bytes) other)) ∙ e in
-        let r = ok-first (readNumber (limitOf Narrow) place bytes) _ None h in
-        let k = known-first (r .0 .next - 1) (kindOf (r .0 .value)) _ None (r .2) in
-        let t = ok-first (fieldsEnd (widths (k .0)) (r .0 .next) bytes) _ None (k .2) in
-        absurd (never (record { kind = k .0; place = place; start = r .0 .next; end = t .0 }) (sym (t .2)))
+      | inl same ↦ same
+      | inr other ↦
+          let h = sym (cond-false (eqb place (length bytes)) (Ok None) _ (ne-eqb place (length bytes) other)) ∙ e in
+          let r = ok-first (readNumber (limitOf Narrow) place bytes) _ None h in
+          let k = known-first (r .0 .next - 1) (kindOf (r .0 .value)) _ None (r .2) in
+          let t = ok-first (fieldsEnd (widths (k .0)) (r .0 .next) bytes) _ None (k .2) in
+          absurd (never (record { kind = k .0; place = place; start = r .0 .next; end = t .0 }) (sym (t .2)))
     ]
 
 -- ---- the kinds
@@ -88,11 +88,11 @@ one-kind : (n m : ℕ) (k j : LineKind) (o : Option LineKind) → m ≡ codeOf j
     → cond (eqb n m) (Some j) o ≡ Some k → n ≡ codeOf k
 one-kind n m k j o code rest e =
     elim (cases-eq n m) [
-      inl same ↦
-        let h = sym (cond-true (eqb n m) (Some j) o (eq-eqb n m same)) ∙ e in
-        let kind : j ≡ k = cc in
-        same ∙ code ∙ ap codeOf kind
-    | inr other ↦ rest (sym (cond-false (eqb n m) (Some j) o (ne-eqb n m other)) ∙ e)
+      | inl same ↦
+          let h = sym (cond-true (eqb n m) (Some j) o (eq-eqb n m same)) ∙ e in
+          let kind : j ≡ k = cc in
+          same ∙ code ∙ ap codeOf kind
+      | inr other ↦ rest (sym (cond-false (eqb n m) (Some j) o (ne-eqb n m other)) ∙ e)
     ]
 
 pub kind-code : (n : ℕ) (k : LineKind) → kindOf n ≡ Some k → n ≡ codeOf k

@@ -73,22 +73,23 @@ reads-all (w ∷ ws) [] before after bytes fit e = absurd fit
 reads-all (w ∷ ws) (n ∷ ns) before after bytes fit e =
     let one : bytes ≡ before ++ (encode n ++ (encodeAll ns ++ after)) = e ∙ ap (λ l. before ++ l) (append-assoc (encode n) (encodeAll ns) after) in
     let read : readNumber (limitOf w) (length before) bytes ≡ found n (length before + length (encode n)) =
-          ap (readNumber (limitOf w) (length before)) one ∙ one-spelling .reads-back (limitOf w) n before (encodeAll ns ++ after) (fit .0) in
+    ap (readNumber (limitOf w) (length before)) one ∙ one-spelling .reads-back (limitOf w) n before (encodeAll ns ++ after) (fit .0) in
     let long : length (before ++ encode n) ≡ length before + length (encode n) = length-append before (encode n) in
     let all : length (encode n ++ encodeAll ns) ≡ length (encode n) + length (encodeAll ns) = length-append (encode n) (encodeAll ns) in
     let rest = reads-all ws ns (before ++ encode n) after bytes (fit .1) (one ∙ sym (append-assoc before (encode n) (encodeAll ns ++ after))) in
-    let count : length (before ++ encode n) + length (encodeAll ns) ≡ length before + length (encode n ++ encodeAll ns) = omega arith in
-    (ap (λ r. thenOk r (λ x. fieldsEnd ws (x .next) bytes)) read ∙ ap (λ p. fieldsEnd ws p bytes) (sym long) ∙ rest .0 ∙ ap Ok count,
-     ap (λ r. orZero (length before) r .0 ∷ values ws (orZero (length before) r .1) bytes) read
-     ∙ ap (λ p. n ∷ values ws p bytes) (sym long) ∙ ap (λ l. n ∷ l) (rest .1))
+    let count : length (before ++ encode n) + length (encodeAll ns) ≡ length before + length (encode n ++ encodeAll ns) = omega arith in (
+      ap (λ r. thenOk r (λ x. fieldsEnd ws (x .next) bytes)) read ∙ ap (λ p. fieldsEnd ws p bytes) (sym long) ∙ rest .0 ∙ ap Ok count,
+      ap (λ r. orZero (length before) r .0 ∷ values ws (orZero (length before) r .1) bytes) read
+          ∙ ap (λ p. n ∷ values ws p bytes) (sym long) ∙ ap (λ l. n ∷ l) (rest .1),
+    )
 
 -- ---- a line
 
 encode-some : (n : ℕ) → 0 < length (encode n)
 encode-some n =
     elim (cases-lt n 128) [
-      inl low ↦ omega (arith, ap length (one-spelling .short n low))
-    | inr high ↦ omega (arith, ap length (one-spelling .long n high))
+      | inl low ↦ omega (arith, ap length (one-spelling .short n low))
+      | inr high ↦ omega (arith, ap length (one-spelling .long n high))
     ]
 
 -- a part that is as long as it was asked to be lies within the bytes
@@ -110,14 +111,14 @@ line-spelled bytes small place f e =
     let span : f .end - f .start ≡ length (encodeAll ns) = omega (arith, w .long) in
     let end-in : f .end - f .start ≤ length bytes - f .start = inside (f .end - f .start) (f .start) bytes (ap length (w .is) ∙ sym span) in
     let front : take (f .start - place) (drop place bytes) ≡ encode (codeOf (f .kind)) =
-          ap (λ k. take k (drop place bytes)) (omega arith) ∙ code .2 ∙ ap encode (kind-code v (f .kind) (p .known)) in
+    ap (λ k. take k (drop place bytes)) (omega arith) ∙ code .2 ∙ ap encode (kind-code v (f .kind) (p .known)) in
     record {
       first = p .begins;
       forward = (omega arith, omega (arith, w .long), omega (arith, w .long));
       whole =
-        ap (λ q. take (f .end - q) (drop q bytes)) (p .begins)
-        ∙ take-parts bytes place (f .start) (f .end) (omega arith) (omega (arith, w .long))
-        ∙ ap (λ l. l ++ stretch bytes f) front;
+          ap (λ q. take (f .end - q) (drop q bytes)) (p .begins)
+          ∙ take-parts bytes place (f .start) (f .end) (omega arith) (omega (arith, w .long))
+          ∙ ap (λ l. l ++ stretch bytes f) front;
       decodes = fields .0 ∙ ap Ok whole-length;
       fields = w .is ∙ ap encodeAll (sym (fields .1));
       widths-kept = subst (Fit (widths (f .kind))) (sym (fields .1)) (w .fit);

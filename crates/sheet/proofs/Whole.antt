@@ -44,13 +44,15 @@ accepted bytes small p q (f ∷ fs) le handed =
     let l = line-spelled bytes small p f (handed .0) in
     let on = l .forward in
     let more = accepted bytes small (f .end) q fs (on .2) (handed .1) in
-    let here : text bytes f ≡ take (f .end - p) (drop p bytes) = ap (λ k. take (f .end - k) (drop k bytes)) (l .first) in
-    (omega (arith, on .0, on .1, more .0), more .1,
-     (λ i. here i ++ more .2 i) ∙ sym (take-parts bytes p (f .end) q (omega (arith, on .0, on .1)) (more .0)))
+    let here : text bytes f ≡ take (f .end - p) (drop p bytes) = ap (λ k. take (f .end - k) (drop k bytes)) (l .first) in (
+      omega (arith, on .0, on .1, more .0),
+      more .1,
+      (λ i. here i ++ more .2 i) ∙ sym (take-parts bytes p (f .end) q (omega (arith, on .0, on .1)) (more .0)),
+    )
 
 pub sheet-laws : SheetLaws
 sheet-laws = record {
-    spelled = line-spelled;
-    ends = λ bytes small p le. through bytes small (suc (length bytes - p)) p (omega arith) le;
-    nothing-lost = accepted;
-  }
+  spelled = line-spelled;
+  ends = λ bytes small p le. through bytes small (suc (length bytes - p)) p (omega arith) le;
+  nothing-lost = accepted;
+}

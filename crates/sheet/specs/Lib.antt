@@ -1,5 +1,4 @@
 pub mod Fields
 pub mod Kinds
 pub mod Laws
-pub mod Rows
 pub mod Showing

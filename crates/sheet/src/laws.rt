@@ -3,5 +3,4 @@ ghost use Rattle.sheet.specs.Laws.{SheetLaws};
 
 pub fn sheet_laws()
     ensures laws { λ _. ⌜ SheetLaws ⌝ }
-{
-}
+{}

@@ -1,6 +1,6 @@
 use mathlib.Core.Path.{ap}
 use Rattle.sheet.specs.Fields.{orZero, fieldAt}
-use Rattle.sheet.proofs.rows.wide.Needs as need
+use Rattle.rows.proofs.row.wide.Needs as need
 
 pub returns-in-Ok : need.returns-in-Ok
 unfolding fieldAt

@@ -4,20 +4,20 @@ use Prim.Native.Nat.{ℕ}
 use lib.ListN.{getD}
 use Rattle.number.specs.declared.reading.Width.{Width}
 use Rattle.number.specs.declared.reading.Width.the-variants.{Narrow, Wide}
 use Rattle.sheet.specs.declared.kinds.LineKind.{LineKind}
 use Rattle.sheet.specs.declared.kinds.LineKind.the-variants as kind
-use Rattle.sheet.specs.declared.rows.PolicyRow.{PolicyRow}
-use Rattle.sheet.specs.declared.rows.GrantRow.{GrantRow}
-use Rattle.sheet.specs.declared.rows.LocationRow.{LocationRow}
-use Rattle.sheet.specs.declared.rows.PathStepRow.{PathStepRow}
-use Rattle.sheet.specs.declared.rows.EdgeRow.{EdgeRow}
-use Rattle.sheet.specs.declared.rows.TreeLine.{TreeLine}
-use Rattle.sheet.specs.declared.rows.TemplateRow.{TemplateRow}
-use Rattle.sheet.specs.declared.rows.PatternRow.{PatternRow}
-use Rattle.sheet.specs.declared.rows.CommandRow.{CommandRow}
-use Rattle.sheet.specs.declared.rows.JobRow.{JobRow}
+use Rattle.rows.specs.declared.row.PolicyRow.{PolicyRow}
+use Rattle.rows.specs.declared.row.GrantRow.{GrantRow}
+use Rattle.rows.specs.declared.row.LocationRow.{LocationRow}
+use Rattle.rows.specs.declared.row.PathStepRow.{PathStepRow}
+use Rattle.rows.specs.declared.row.EdgeRow.{EdgeRow}
+use Rattle.rows.specs.declared.row.TreeLine.{TreeLine}
+use Rattle.rows.specs.declared.row.TemplateRow.{TemplateRow}
+use Rattle.rows.specs.declared.row.PatternRow.{PatternRow}
+use Rattle.rows.specs.declared.row.CommandRow.{CommandRow}
+use Rattle.rows.specs.declared.row.JobRow.{JobRow}
 use Rattle.sheet.specs.Fields.{values, fieldAt}
 use Rattle.sheet.specs.Kinds.{widths}
 
 -- field i of a stretch of the kind
 abbrev pub field : LineKind → List ℕ → ℕ → ℕ

@@ -3,8 +3,8 @@
 ghost use mathlib.Core.Path.{_≡_};
 ghost use Prim.Native.Nat.{_<_, _^_};
 ghost use Rattle.number.specs.declared.reading.Width.the-variants.{Narrow, Wide};
 ghost use Rattle.sheet.specs.Fields.{fieldAt};
-ghost use Rattle.sheet.specs.Rows.{policyRow, grantRow, locationRow, pathStepRow, treeLineAt, edgeRow, templateRow, patternRow, commandRow, jobRow};
+ghost use Rattle.rows.specs.Decoding.{policyRow, grantRow, locationRow, pathStepRow, treeLineAt, edgeRow, templateRow, patternRow, commandRow, jobRow};
 use number::Width;
 use number::read_number;
 use order::RoleSet;
