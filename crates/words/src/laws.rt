@@ -3,5 +3,4 @@ ghost use Rattle.words.specs.Laws.{Reads-back};
 
 pub fn reads_back()
     ensures laws { λ _. ⌜ Reads-back ⌝ }
-{
-}
+{}
