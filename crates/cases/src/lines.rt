@@ -1,7 +1,7 @@
 // The console's lines: both sides of each limit of what can be written.
+use answer::AnswerDisplay;
 use session::Session;
 use std::io;
-use words::AnswerDisplay;
 
 const LINES: [&str; 30] = [
     "draw 31 0",

@@ -1,5 +1,6 @@
 // The console: reads commands, one to a line, from the file named by its first argument, else from standard input, and
 // prints one answer for each. It only moves text: every answer is the session's.
+use answer::AnswerDisplay;
 use session::Session;
 use std::env;
 use std::error::AnyError;
@@ -7,7 +8,6 @@ use std::fs::File;
 use std::io::BufRead;
 use std::io::BufReader;
 use std::io::Read;
-use words::AnswerDisplay;
 
 fn answer_lines<R: Read + Drop>(rt: &LibcRuntime, input: BufReader<R>) -> Result<(), AnyError> {
     let mut session = Session::new();

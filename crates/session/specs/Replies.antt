@@ -10,8 +10,8 @@ use Rattle.order.specs.RoleSets.{setBelow, opensTo}
 use Rattle.drawn.specs.Draws.{Least, FirstUnknown}
 use Rattle.drawn.specs.Rows.{rowsBelow}
 use Rattle.rights.specs.Bringing.{rightsBelow}
-use Rattle.words.specs.declared.answer.Answer.{Answer}
-use Rattle.words.specs.declared.answer.Answer.the-variants as answer
+use Rattle.answer.specs.declared.answer.Answer.{Answer}
+use Rattle.answer.specs.declared.answer.Answer.the-variants as answer
 use Rattle.words.specs.declared.line.OrderKind.{OrderKind}
 use Rattle.words.specs.declared.line.OrderKind.the-variants as kind
 use Rattle.words.specs.Saying.{Asked, Said}

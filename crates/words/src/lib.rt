@@ -1,5 +1,4 @@
-// What a line of the console's input says, and how an answer is written.
-mod answer;
+// What a line of the console's input says.
 mod argument;
 mod cut;
 mod laws;
@@ -8,8 +7,6 @@ mod named;
 mod read;
 mod spelled;
 
-pub use answer::Answer;
-pub use answer::AnswerDisplay;
 pub use laws::reads_back;
 pub use line::Command;
 pub use line::Line;

@@ -24,6 +24,8 @@ pub enum Why {
     NotAnOrder,
     NotARoleCode,
     NotARoleSet,
+    // The file that the word names.
+    CannotBeRead,
     Missing,
     TooMany,
 }

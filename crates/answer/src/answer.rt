@@ -1,10 +1,10 @@
 // How an answer is written: one line, without its end.
 ghost use mathlib.Core.Path.{_≡_};
 ghost use Rattle.std.specs.declared.option.Option.the-variants.{Some};
-ghost use Rattle.words.specs.Showing.{reasonOf, answerText};
-use super::line::Unclear;
-use super::line::Why;
+ghost use Rattle.answer.specs.Showing.{reasonOf, answerText};
 use std::fmt;
+use words::Unclear;
+use words::Why;
 
 #[derive(Clone, Copy)]
 pub enum Answer {
@@ -12,9 +12,24 @@ pub enum Answer {
     Yes,
     No,
     // The pair at this place, counted from 0, was not drawn.
-    PairRefused { number: u32, pair: usize },
+    PairRefused {
+        number: u32,
+        pair: usize,
+    },
     // The order is not one that is drawn.
-    NotDrawn { number: u32 },
+    NotDrawn {
+        number: u32,
+    },
+    // So many lines were listed.
+    Count {
+        lines: usize,
+    },
+    // A line of a sheet could not be read, from this byte of the sheet on.
+    ReadRefused {
+        number: u32,
+        line: usize,
+        byte: usize,
+    },
     Unclear(Unclear),
 }
 
@@ -26,6 +41,7 @@ fn reason(why: Why) -> &'static str
         Why::NotAnOrder => "no such order",
         Why::NotARoleCode => "not a role code",
         Why::NotARoleSet => "not a role set",
+        Why::CannotBeRead => "cannot be read",
         Why::Missing => "missing",
         Why::TooMany => "too many words",
     }
@@ -41,6 +57,10 @@ pub impl fmt::Display for Answer as AnswerDisplay {
             Answer::No => f.write_str("no"),
             Answer::PairRefused { number, pair } => write!(f, "refused {number} pair {pair}"),
             Answer::NotDrawn { number } => write!(f, "refused {number} not drawn"),
+            Answer::Count { lines } => write!(f, "ok {lines}"),
+            Answer::ReadRefused { number, line, byte } => {
+                write!(f, "refused {number} line {line} byte {byte}")
+            }
             Answer::Unclear(unclear) => {
                 let word = unclear.word;
                 let reason = reason(unclear.why);

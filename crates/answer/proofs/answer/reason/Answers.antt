@@ -1,6 +1,6 @@
 use mathlib.Core.Path.{sym, ap}
-use Rattle.words.specs.Showing.{reasonOf}
-use Rattle.words.proofs.answer.reason.Needs as need
+use Rattle.answer.specs.Showing.{reasonOf}
+use Rattle.answer.proofs.answer.reason.Needs as need
 
 pub returns-in-NotACommand : need.returns-in-NotACommand
 returns-in-NotACommand c = record { answer = sym (ap reasonOf (c .in-NotACommand .is)) }
@@ -13,6 +13,9 @@ returns-in-NotARoleCode c = record { answer = sym (ap reasonOf (c .in-NotARoleCo
 
 pub returns-in-NotARoleSet : need.returns-in-NotARoleSet
 returns-in-NotARoleSet c = record { answer = sym (ap reasonOf (c .in-NotARoleSet .is)) }
+
+pub returns-in-CannotBeRead : need.returns-in-CannotBeRead
+returns-in-CannotBeRead c = record { answer = sym (ap reasonOf (c .in-CannotBeRead .is)) }
 
 pub returns-in-Missing : need.returns-in-Missing
 returns-in-Missing c = record { answer = sym (ap reasonOf (c .in-Missing .is)) }
