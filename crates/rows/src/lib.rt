@@ -11,3 +11,4 @@ pub use row::PatternRow;
 pub use row::PolicyRow;
 pub use row::TemplateRow;
 pub use row::TreeLine;
+pub use row::field_at;

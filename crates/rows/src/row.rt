@@ -1,8 +1,9 @@
 // The rows that lines spell, with named fields of the right widths. A stretch that the reader handed out always decodes; of
 // any other bytes, a field is 0 where no number stands.
 ghost use mathlib.Core.Path.{_≡_};
-ghost use Prim.Native.Nat.{_<_, _^_};
+ghost use Prim.Native.Nat.{_≤_};
 ghost use Rattle.number.specs.declared.reading.Width.the-variants.{Narrow, Wide};
+ghost use Rattle.number.specs.Spelling.{limitOf};
 ghost use Rattle.sheet.specs.Fields.{fieldAt};
 ghost use Rattle.rows.specs.Decoding.{policyRow, grantRow, locationRow, pathStepRow, treeLineAt, edgeRow, templateRow, patternRow, commandRow, jobRow};
 use number::Width;
@@ -85,23 +86,28 @@ pub struct JobRow {
     pub command: u32,
 }
 
-// The wide number at the place, and where the bytes behind it begin.
-fn wide(bytes: &[u8], at: usize) -> (u64, usize)
-    ensures answer { λ r. ⌜ r ≡ fieldAt Wide at (now (bytes .entry)) ⌝ }
+// The number at the place, and where the bytes behind it begin; 0 where none stands.
+pub fn field_at(bytes: &[u8], at: usize, width: Width) -> (u64, usize)
+    ensures answer { λ r. ⌜ r ≡ fieldAt width at (now (bytes .entry)) ⌝ }
+    ensures within { λ r. ⌜ r .0 ≤ limitOf width ⌝ }
 {
-    match read_number(bytes, at, Width::Wide) {
+    match read_number(bytes, at, width) {
         Ok(number) => (number.value, number.next),
         Err(_) => (0, at),
     }
 }
 
+fn wide(bytes: &[u8], at: usize) -> (u64, usize)
+    ensures answer { λ r. ⌜ r ≡ fieldAt Wide at (now (bytes .entry)) ⌝ }
+{
+    field_at(bytes, at, Width::Wide)
+}
+
 fn narrow(bytes: &[u8], at: usize) -> (u32, usize)
     ensures answer { λ r. ⌜ r ≡ fieldAt Narrow at (now (bytes .entry)) ⌝ }
 {
-    match read_number(bytes, at, Width::Narrow) {
-        Ok(number) => (number.value as u32, number.next),
-        Err(_) => (0, at),
-    }
+    let (value, next) = field_at(bytes, at, Width::Narrow);
+    (value as u32, next)
 }
 
 impl PolicyRow {

@@ -53,7 +53,8 @@ impl LineKind {
         }
     }
 
-    pub(crate) fn widths(self) -> &'static [Width]
+    // The widths of the line's fields, in their order.
+    pub fn widths(self) -> &'static [Width]
         ensures answer { λ r. ⌜ now r ≡ widths self ⌝ }
     {
         match self {

@@ -23,6 +23,41 @@ pub struct PlacedLine<'a> {
     pub place: usize,
 }
 
+impl<'a> Line<'a> {
+    pub fn kind(self) -> LineKind
+        ensures answer { λ r. ⌜ r ≡ shows (self .entry) .0 ⌝ }
+    {
+        match self {
+            Line::Policy(_) => LineKind::Policy,
+            Line::Grant(_) => LineKind::Grant,
+            Line::Location(_) => LineKind::Location,
+            Line::PathStep(_) => LineKind::PathStep,
+            Line::Edge(_) => LineKind::Edge,
+            Line::TemplateLine(_) => LineKind::TemplateLine,
+            Line::Pattern(_) => LineKind::Pattern,
+            Line::Command(_) => LineKind::Command,
+            Line::Job(_) => LineKind::Job,
+        }
+    }
+
+    // The bytes of the line's fields.
+    pub fn stretch(self) -> &'a [u8]
+        ensures answer { λ r. ⌜ now r ≡ shows (self .entry) .1 ⌝ }
+    {
+        match self {
+            Line::Policy(stretch)
+            | Line::Grant(stretch)
+            | Line::Location(stretch)
+            | Line::PathStep(stretch)
+            | Line::Edge(stretch)
+            | Line::TemplateLine(stretch)
+            | Line::Pattern(stretch)
+            | Line::Command(stretch)
+            | Line::Job(stretch) => stretch,
+        }
+    }
+}
+
 pub(crate) fn line_of<'a>(kind: LineKind, stretch: &'a [u8]) -> Line<'a>
     ensures answer { λ r. ⌜ shows r ≡ (kind, now (stretch .entry)) ⌝ }
 {
