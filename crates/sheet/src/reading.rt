@@ -1,5 +1,6 @@
 // Reading: one line after the other.
 ghost use mathlib.Core.Path.{_≡_};
+ghost use Prim.Native.Nat.{_<_, _^_};
 ghost use lib.ListN.{length};
 ghost use Rattle.sheet.specs.Showing.{seen, shown, lineAt, placeAfter, frameAfter, Moves, HandedDecodes};
 use super::finding::find_line;
@@ -33,6 +34,7 @@ impl<'a> Reader<'a> {
         ensures frame { λ _. ⌜ now (self .exit) .frame ≡ frameAfter (now (self .entry) .frame) (lineAt (now (self .entry) .frame) (now (self .entry) .place) (now (now (self .entry) .sheet))) ⌝ }
         ensures same { λ _. ⌜ now (now (self .exit) .sheet) ≡ now (now (self .entry) .sheet) ⌝ }
         ensures moves { λ r. ⌜ Moves r (now (self .entry) .place) (now (self .exit) .place) ⌝ }
+        ensures small { λ _. ⌜ now (self .exit) .place < 2 ^ 64 ⌝ }
     {
         let until = self.frame.end;
         let Some(found) = find_line(&self.sheet[0..until], self.place)? else {

@@ -1,4 +1,5 @@
 use mathlib.Core.Path.{refl, sym, ap, _∙_}
+use native.Mathlib.Omega.{arith}
 use Rattle.std.specs.declared.option.Option.the-variants.{Some, None}
 use Rattle.std.specs.declared.result.Result.the-variants.{Ok, Err}
 use Rattle.std.proofs.shelf.Results.{err-from-errBy}
@@ -12,13 +13,13 @@ returns-in-Break-found c =
     let a = answered (r .frame) (r .place) (r .sheet .now) _ (sym (c .in-Break-found .was tt) ∙ c .find-line .ensures .answer) in
     let p = err-from-errBy (c .from-residual .result) (c .from-residual .ensures .1) in
     let e = p .1 ∙ ap Err (p .2) in
-    record { answer = ap seen e ∙ a .shows-it; place = a .goes-to; frame = a .keeps; same = refl; moves = moves-err _ _ _ e }
+    record { answer = ap seen e ∙ a .shows-it; place = a .goes-to; frame = a .keeps; same = refl; moves = moves-err _ _ _ e; small = omega arith }
 
 pub returns-in-rest : need.returns-in-rest
 returns-in-rest c =
     let r = c .args .self .now in
     let a = answered (r .frame) (r .place) (r .sheet .now) (Ok None) (sym (ap Ok (c .in-rest .is)) ∙ c .in-Continue-found .ensures tt .answer) in
-    record { answer = a .shows-it; place = a .goes-to; frame = a .keeps; same = refl; moves = refl }
+    record { answer = a .shows-it; place = a .goes-to; frame = a .keeps; same = refl; moves = refl; small = omega arith }
 
 pub returns : need.returns
 returns c =
@@ -32,4 +33,5 @@ returns c =
       frame = with-kind (r .frame .end) _ _ (c .code-self .ensures .answer) ∙ a .keeps;
       same = refl;
       moves = w;
+      small = omega arith;
     }
