@@ -7,7 +7,7 @@ use Rattle.answer.specs.declared.answer.Answer.{Answer}
 use Rattle.answer.specs.declared.answer.Answer.the-variants as answer
 use Rattle.words.specs.declared.line.Unclear.{Unclear}
 use Rattle.words.specs.declared.line.Why.{Why}
-use Rattle.words.specs.declared.line.Why.the-variants.{NotACommand, NotAnOrder, NotARoleCode, NotARoleSet, CannotBeRead, Missing, TooMany}
+use Rattle.words.specs.declared.line.Why.the-variants.{NotACommand, NotAnOrder, NotARoleCode, NotARoleSet, NeitherHexNorFile, NotHexadecimal, CannotBeRead, Missing, TooMany}
 
 -- Why a word is not understood.
 abbrev pub reasonOf : Why → List ℕ
@@ -15,6 +15,8 @@ reasonOf NotACommand = codes "no such command"
 reasonOf NotAnOrder = codes "no such order"
 reasonOf NotARoleCode = codes "not a role code"
 reasonOf NotARoleSet = codes "not a role set"
+reasonOf NeitherHexNorFile = codes "neither hex nor file"
+reasonOf NotHexadecimal = codes "not hexadecimal"
 reasonOf CannotBeRead = codes "cannot be read"
 reasonOf Missing = codes "missing"
 reasonOf TooMany = codes "too many words"

@@ -41,6 +41,8 @@ fn reason(why: Why) -> &'static str
         Why::NotAnOrder => "no such order",
         Why::NotARoleCode => "not a role code",
         Why::NotARoleSet => "not a role set",
+        Why::NeitherHexNorFile => "neither hex nor file",
+        Why::NotHexadecimal => "not hexadecimal",
         Why::CannotBeRead => "cannot be read",
         Why::Missing => "missing",
         Why::TooMany => "too many words",

@@ -1,6 +1,7 @@
 pub mod Backward
 pub mod Cuts
 pub mod Draws
+pub mod Hexes
 pub mod Lines
 pub mod Numbers
 pub mod Places

@@ -9,8 +9,11 @@ use Rattle.std.specs.declared.option.Option.{Option}
 use Rattle.std.specs.declared.option.Option.the-variants.{Some, None}
 use Rattle.std.specs.declared.result.Result.{Result}
 use Rattle.std.specs.declared.result.Result.the-variants.{Ok, Err}
+use Rattle.std.specs.declared.alloc.Global.{Global}
+use Rattle.std.specs.declared.vec.Vec.{Vec}
 use Rattle.std.specs.Finite.{nth}
-use Rattle.std.specs.Options.{okOr}
+use Rattle.std.specs.Of.Vec.{vec-items}
+use Rattle.std.specs.Options.{okOr, mapped}
 use Rattle.std.proofs.shelf.Lists.{length-map, getD-map}
 use Rattle.std.proofs.shelf.Maps.{nth-getD, nth-past}
 use Rattle.std.proofs.shelf.Tests.{cond-true, cond-false, lt-ltb, le-ltb}
@@ -18,7 +21,7 @@ use Rattle.words.specs.declared.line.Unclear.{Unclear}
 use Rattle.words.specs.declared.line.Why.{Why}
 use Rattle.words.specs.declared.line.Why.the-variants.{Missing, TooMany}
 use Rattle.words.specs.Cutting.{texts}
-use Rattle.words.specs.Saying.{fault, wanted, endAt}
+use Rattle.words.specs.Saying.{fault, wanted, endAt, held}
 
 pub length-texts : (words : List (RefT (List ℕ))) → length (texts words) ≡ length words
 length-texts words = length-map words (λ w. w .now)
@@ -45,3 +48,7 @@ too-many-at words place more = sym (cond-true _ _ _ (lt-ltb place (length (texts
 pub ends-at : (words : List (RefT (List ℕ))) (place : ℕ) → length words ≤ place → Ok tt ≡ endAt (texts words) place
 unfolding endAt
 ends-at words place past = sym (cond-false _ _ _ (le-ltb place (length (texts words)) (omega (arith, length-texts words))))
+
+pub held-or : (o : Option (Vec ℕ Global)) (u : Unclear) → held (okOr o u) ≡ okOr (mapped vec-items o) u
+held-or None u = refl
+held-or (Some bytes) u = refl

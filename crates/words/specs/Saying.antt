@@ -10,6 +10,8 @@ use Rattle.std.specs.declared.option.Option.{Option}
 use Rattle.std.specs.declared.option.Option.the-variants.{Some, None}
 use Rattle.std.specs.declared.result.Result.{Result}
 use Rattle.std.specs.declared.result.Result.the-variants.{Ok, Err}
+use Rattle.std.specs.declared.vec.Vec.{Vec}
+use Rattle.std.specs.declared.alloc.Global.{Global}
 use Rattle.std.specs.Finite.{nth}
 use Rattle.std.specs.Options.{okOr}
 use Rattle.std.specs.Of.Vec.{vec-items}
@@ -22,10 +24,13 @@ use Rattle.words.specs.declared.line.OrderKind.{OrderKind}
 use Rattle.words.specs.declared.line.OrderKind.the-variants.{Drawn, Rights}
 use Rattle.words.specs.declared.line.Unclear.{Unclear}
 use Rattle.words.specs.declared.line.Why.{Why}
-use Rattle.words.specs.declared.line.Why.the-variants.{NotACommand, NotAnOrder, NotARoleCode, NotARoleSet, Missing, TooMany}
+use Rattle.words.specs.declared.line.Why.the-variants.{NotACommand, NotAnOrder, NotARoleCode, NotARoleSet, NeitherHexNorFile, NotHexadecimal, Missing, TooMany}
 use Rattle.words.specs.declared.named.Name.{Name}
 use Rattle.words.specs.declared.named.Name.the-variants as name
+use Rattle.words.specs.declared.named.Source.{Source}
+use Rattle.words.specs.declared.named.Source.the-variants.{Hex, File}
 use Rattle.words.specs.Cutting.{wordsOf}
+use Rattle.words.specs.Hex.{hexBytes}
 use Rattle.words.specs.Spelling.{roleCode, roleSet}
 
 -- What a command asks.
@@ -35,6 +40,8 @@ pub data Asked : Type 0 where
   below : ℕ → ℕ → Asked
   under : ℕ → ℕ → Asked
   opens : ℕ → ℕ → Asked
+  listHex : List ℕ → Asked
+  listFile : List ℕ → Asked
 
 -- What a line says.
 pub data Said : Type 0 where
@@ -63,11 +70,16 @@ nameOf word =
     (cond (sameBytes word (codes "draw")) (Some name.Draw)
     (cond (sameBytes word (codes "below")) (Some name.Below)
     (cond (sameBytes word (codes "under")) (Some name.Under)
-    (cond (sameBytes word (codes "opens")) (Some name.Opens) None))))
+    (cond (sameBytes word (codes "opens")) (Some name.Opens)
+    (cond (sameBytes word (codes "list")) (Some name.List) None)))))
 
 -- The names of the orders.
 abbrev pub orderOf : List ℕ → Option OrderKind
 orderOf word = cond (sameBytes word (codes "drawn")) (Some Drawn) (cond (sameBytes word (codes "rights")) (Some Rights) None)
+
+-- The names of the ways in which a sheet is given.
+abbrev pub sourceOf : List ℕ → Option Source
+sourceOf word = cond (sameBytes word (codes "hex")) (Some Hex) (cond (sameBytes word (codes "file")) (Some File) None)
 
 -- The order whose name stands at a place.
 unfoldable pub orderAt : List (List ℕ) → ℕ → Result OrderKind Unclear
@@ -80,6 +92,18 @@ codeAt words place = wanted roleCode NotARoleCode place (nth words place)
 -- The set of roles that stands at a place.
 unfoldable pub setAt : List (List ℕ) → ℕ → Result ℕ Unclear
 setAt words place = wanted roleSet NotARoleSet place (nth words place)
+
+-- The way in which a sheet is given that stands at a place.
+unfoldable pub sourceAt : List (List ℕ) → ℕ → Result Source Unclear
+sourceAt words place = wanted sourceOf NeitherHexNorFile place (nth words place)
+
+-- The bytes that are spelled at a place.
+unfoldable pub hexAt : List (List ℕ) → ℕ → Result (List ℕ) Unclear
+hexAt words place = wanted hexBytes NotHexadecimal place (nth words place)
+
+-- The word at a place, whatever it is.
+unfoldable pub wordAt : List (List ℕ) → ℕ → Result (List ℕ) Unclear
+wordAt words place = wanted Some Missing place (nth words place)
 
 -- The line ends before this place.
 unfoldable pub endAt : List (List ℕ) → ℕ → Result (Unit {0}) Unclear
@@ -114,6 +138,27 @@ pairsFrom place (v ∷ w ∷ ws) =
 abbrev pub drawAsked : List (List ℕ) → Result Asked Unclear
 drawAsked words = thenOk (pairsFrom 1 (drop 1 words)) (λ pairs. Ok (draw pairs))
 
+-- What is asked, if the line ends before the word 3.
+abbrev pub closed : List (List ℕ) → Asked → Result Asked Unclear
+closed words a = thenOk (endAt words 3) (λ _. Ok a)
+
+-- `list hex BYTES`
+abbrev pub hexAsked : List (List ℕ) → Result Asked Unclear
+hexAsked words = thenOk (hexAt words 2) (λ bytes. closed words (listHex bytes))
+
+-- `list file NAME`
+abbrev pub fileAsked : List (List ℕ) → Result Asked Unclear
+fileAsked words = thenOk (wordAt words 2) (λ name. closed words (listFile name))
+
+-- `list`, by the way in which the sheet is given.
+abbrev pub listedFrom : Source → List (List ℕ) → Result Asked Unclear
+listedFrom Hex words = hexAsked words
+listedFrom File words = fileAsked words
+
+-- `list hex BYTES` or `list file NAME`
+abbrev pub listAsked : List (List ℕ) → Result Asked Unclear
+listAsked words = thenOk (sourceAt words 1) (λ source. listedFrom source words)
+
 -- What the command of this name asks.
 abbrev pub askedBy : Option Name → List (List ℕ) → Result Asked Unclear
 askedBy None words = Err (fault 0 NotACommand)
@@ -122,6 +167,7 @@ askedBy (Some name.Draw) words = drawAsked words
 askedBy (Some name.Below) words = belowAsked words
 askedBy (Some name.Under) words = underAsked words
 askedBy (Some name.Opens) words = opensAsked words
+askedBy (Some name.List) words = listAsked words
 
 -- What a line says that is no note.
 abbrev pub saidIs : Result Asked Unclear → Said
@@ -141,6 +187,11 @@ saidBy (w ∷ ws) = cond (isNote w) passed (saidIs (askedBy (nameOf w) (w ∷ ws
 abbrev pub said : List ℕ → Said
 said bytes = saidBy (wordsOf bytes)
 
+-- The bytes that were read, as the program holds them.
+abbrev pub held : Result (Vec ℕ Global) Unclear → Result (List ℕ) Unclear
+held (Ok bytes) = Ok (vec-items bytes)
+held (Err u) = Err u
+
 -- What a command asks, as the program holds it.
 abbrev pub askedOf : Command → Asked
 askedOf (command.Order kind) = order kind
@@ -148,6 +199,8 @@ askedOf (command.Draw pairs) = draw (vec-items pairs)
 askedOf (command.Below a b) = below a b
 askedOf (command.Under a b) = under a b
 askedOf (command.Opens a b) = opens a b
+askedOf (command.ListHex bytes) = listHex (vec-items bytes)
+askedOf (command.ListFile name) = listFile (vec-items name)
 
 -- The same where a fault may stand in its place.
 abbrev pub asked : Result Command Unclear → Result Asked Unclear

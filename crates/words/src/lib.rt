@@ -1,6 +1,7 @@
 // What a line of the console's input says.
 mod argument;
 mod cut;
+mod hex;
 mod laws;
 mod line;
 mod named;

@@ -16,6 +16,10 @@ pub enum Command {
     // A set of roles is a number whose bit r stands for role r.
     Under { a: u64, b: u64 },
     Opens { set: u64, roles: u64 },
+    // The bytes of a sheet.
+    ListHex(Vec<u8>),
+    // The name of the file that holds a sheet.
+    ListFile(Vec<u8>),
 }
 
 #[derive(Clone, Copy)]
@@ -24,6 +28,8 @@ pub enum Why {
     NotAnOrder,
     NotARoleCode,
     NotARoleSet,
+    NeitherHexNorFile,
+    NotHexadecimal,
     // The file that the word names.
     CannotBeRead,
     Missing,

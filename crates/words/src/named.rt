@@ -1,7 +1,7 @@
 // The names of the commands and of the orders.
 ghost use mathlib.Core.Path.{_≡_};
 ghost use Rattle.std.specs.shelf.Text.{sameBytes};
-ghost use Rattle.words.specs.Saying.{nameOf, orderOf};
+ghost use Rattle.words.specs.Saying.{nameOf, orderOf, sourceOf};
 use super::line::OrderKind;
 
 #[derive(Clone, Copy)]
@@ -11,6 +11,14 @@ pub enum Name {
     Below,
     Under,
     Opens,
+    List,
+}
+
+// How a sheet is given: by its bytes, or by the file that holds them.
+#[derive(Clone, Copy)]
+pub enum Source {
+    Hex,
+    File,
 }
 
 fn spells(word: &[u8], text: &str) -> bool
@@ -32,6 +40,8 @@ pub(crate) fn name_of(word: &[u8]) -> Option<Name>
         Some(Name::Under)
     } else if spells(word, "opens") {
         Some(Name::Opens)
+    } else if spells(word, "list") {
+        Some(Name::List)
     } else {
         None
     }
@@ -44,6 +54,18 @@ pub(crate) fn order_of(word: &[u8]) -> Option<OrderKind>
         Some(OrderKind::Drawn)
     } else if spells(word, "rights") {
         Some(OrderKind::Rights)
+    } else {
+        None
+    }
+}
+
+pub(crate) fn source_of(word: &[u8]) -> Option<Source>
+    ensures answer { λ r. ⌜ r ≡ sourceOf (now (word .entry)) ⌝ }
+{
+    if spells(word, "hex") {
+        Some(Source::Hex)
+    } else if spells(word, "file") {
+        Some(Source::File)
     } else {
         None
     }

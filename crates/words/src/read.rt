@@ -4,17 +4,21 @@ ghost use Prim.Native.Nat.{_<_};
 ghost use lib.ListN.{length};
 ghost use Rattle.std.specs.Vec.{made};
 ghost use Rattle.words.specs.Cutting.{texts};
-ghost use Rattle.words.specs.Saying.{orderAsked, belowAsked, underAsked, opensAsked, drawAsked, asked, askedBy, saidIs, isNote, saidBy, said, saidOf};
+ghost use Rattle.words.specs.Saying.{orderAsked, belowAsked, underAsked, opensAsked, drawAsked, closed, hexAsked, fileAsked, listAsked, askedOf, asked, askedBy, saidIs, isNote, saidBy, said, saidOf};
 use super::argument::end_at;
+use super::argument::hex_at;
 use super::argument::order_at;
 use super::argument::role_code_at;
 use super::argument::role_set_at;
+use super::argument::source_at;
+use super::argument::word_at;
 use super::cut::cut;
 use super::line::Command;
 use super::line::Line;
 use super::line::Unclear;
 use super::line::Why;
 use super::named::Name;
+use super::named::Source;
 use super::named::name_of;
 use std::alloc::AllocError;
 use std::alloc::Global;
@@ -91,6 +95,42 @@ fn draw(heap: Global, words: &[&[u8]]) -> Result<Line, AllocError>
     }
 }
 
+// The command, if the line ends before the word 3.
+fn close(words: &[&[u8]], command: Command) -> Result<Command, Unclear>
+    ensures answer { λ r. ⌜ asked r ≡ closed (texts (now (words .entry))) (askedOf command) ⌝ }
+{
+    end_at(words, 3)?;
+    Ok(command)
+}
+
+fn list_hex(heap: Global, words: &[&[u8]]) -> Result<Line, AllocError>
+    ensures answer { λ r. ⌜ made r (λ line. saidOf line ≡ saidIs (hexAsked (texts (now (words .entry))))) ⌝ }
+{
+    match hex_at(heap, words, 2)? {
+        Ok(bytes) => Ok(line_of(close(words, Command::ListHex(bytes)))),
+        Err(unclear) => Ok(Line::Unclear(unclear)),
+    }
+}
+
+fn list_file(heap: Global, words: &[&[u8]]) -> Result<Line, AllocError>
+    ensures answer { λ r. ⌜ made r (λ line. saidOf line ≡ saidIs (fileAsked (texts (now (words .entry))))) ⌝ }
+{
+    match word_at(heap, words, 2)? {
+        Ok(name) => Ok(line_of(close(words, Command::ListFile(name)))),
+        Err(unclear) => Ok(Line::Unclear(unclear)),
+    }
+}
+
+fn list(heap: Global, words: &[&[u8]]) -> Result<Line, AllocError>
+    ensures answer { λ r. ⌜ made r (λ line. saidOf line ≡ saidIs (listAsked (texts (now (words .entry))))) ⌝ }
+{
+    match source_at(words, 1) {
+        Ok(Source::Hex) => list_hex(heap, words),
+        Ok(Source::File) => list_file(heap, words),
+        Err(unclear) => Ok(Line::Unclear(unclear)),
+    }
+}
+
 // A note is for a reader of the input, and asks nothing.
 fn is_note(word: &[u8]) -> bool
     ensures answer { λ r. ⌜ r ≡ isNote (now (word .entry)) ⌝ }
@@ -118,6 +158,7 @@ fn asked_by(heap: Global, name: Option<Name>, words: &[&[u8]]) -> Result<Line, A
         Name::Below => Ok(line_of(below(words))),
         Name::Under => Ok(line_of(under(words))),
         Name::Opens => Ok(line_of(opens(words))),
+        Name::List => list(heap, words),
     }
 }
 

@@ -14,6 +14,12 @@ returns-in-NotARoleCode c = record { answer = sym (ap reasonOf (c .in-NotARoleCo
 pub returns-in-NotARoleSet : need.returns-in-NotARoleSet
 returns-in-NotARoleSet c = record { answer = sym (ap reasonOf (c .in-NotARoleSet .is)) }
 
+pub returns-in-NeitherHexNorFile : need.returns-in-NeitherHexNorFile
+returns-in-NeitherHexNorFile c = record { answer = sym (ap reasonOf (c .in-NeitherHexNorFile .is)) }
+
+pub returns-in-NotHexadecimal : need.returns-in-NotHexadecimal
+returns-in-NotHexadecimal c = record { answer = sym (ap reasonOf (c .in-NotHexadecimal .is)) }
+
 pub returns-in-CannotBeRead : need.returns-in-CannotBeRead
 returns-in-CannotBeRead c = record { answer = sym (ap reasonOf (c .in-CannotBeRead .is)) }
 
