@@ -1,9 +1,10 @@
 // The console's lines: both sides of each limit of what can be written.
 use answer::AnswerDisplay;
+use session::Reply;
 use session::Session;
 use std::io;
 
-const LINES: [&str; 30] = [
+const LINES: [&str; 40] = [
     "draw 31 0",
     "draw 32 0",
     "draw 0 31 0 32",
@@ -34,20 +35,32 @@ const LINES: [&str; 30] = [
     "draw 1 2",
     "order tanks",
     "step 0",
+    "list hex 01fF",
+    "list hex 01f",
+    "list hex 0g",
+    "list hex",
+    "list hex 01 02",
+    "list file f.sheet",
+    "list file",
+    "list file a b",
+    "list text 01",
+    "list",
 ];
 
 pub(crate) fn run(rt: &LibcRuntime) -> io::Result<()> {
     let mut session = Session::new();
     for line in LINES {
         match session.reply(rt.alloc(), line.as_bytes())? {
-            Some(answer) => println!(rt, "{line} -> {answer}")?,
-            None => println!(rt, "{line} -> (passed over)")?,
+            Reply::Nothing => println!(rt, "{line} -> (passed over)")?,
+            Reply::Answered(answer) => println!(rt, "{line} -> {answer}")?,
+            Reply::List(sheet) => println!(rt, "{line} -> lists {sheet:?}")?,
+            Reply::ListFile(name) => println!(rt, "{line} -> lists the file {name:?}")?,
         }
     }
     for line in ["", "   ", "# draw 1 2", " \t#"] {
         match session.reply(rt.alloc(), line.as_bytes())? {
-            Some(answer) => println!(rt, "{line:?} -> {answer}")?,
-            None => println!(rt, "{line:?} is passed over")?,
+            Reply::Nothing => println!(rt, "{line:?} is passed over")?,
+            _ => println!(rt, "{line:?} is not passed over")?,
         }
     }
     Ok(())

@@ -4,6 +4,7 @@ use std::io;
 
 mod lines;
 mod orders;
+mod sheets;
 
 // The worked cases hold of the definitions that the contracts are stated with.
 pub fn worked_cases_hold()
@@ -13,5 +14,6 @@ pub fn worked_cases_hold()
 fn main(rt: LibcRuntime) -> io::Result<()> {
     worked_cases_hold();
     orders::run(&rt)?;
+    sheets::run(&rt)?;
     lines::run(&rt)
 }

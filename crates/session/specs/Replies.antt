@@ -1,11 +1,10 @@
--- What the console answers to a line, and which order is in force after it.
+-- What a line of input calls for, and which order is in force after it.
 use mathlib.Core.Path.{_≡_}
 use mathlib.Core.Bool.{Bool, true, false}
 use mathlib.Core.List.{List, []}
 use mathlib.Core.Logic.{_⊎_}
 use Prim.Native.Nat.{ℕ}
-use Rattle.std.specs.declared.option.Option.{Option}
-use Rattle.std.specs.declared.option.Option.the-variants.{Some, None}
+use Rattle.std.specs.Of.Vec.{vec-items}
 use Rattle.order.specs.RoleSets.{setBelow, opensTo}
 use Rattle.drawn.specs.Draws.{Least, FirstUnknown}
 use Rattle.drawn.specs.Rows.{rowsBelow}
@@ -15,8 +14,10 @@ use Rattle.answer.specs.declared.answer.Answer.the-variants as answer
 use Rattle.words.specs.declared.line.OrderKind.{OrderKind}
 use Rattle.words.specs.declared.line.OrderKind.the-variants as kind
 use Rattle.words.specs.Saying.{Asked, Said}
-use Rattle.words.specs.Saying.Asked.{order, draw, below, under, opens}
+use Rattle.words.specs.Saying.Asked.{order, draw, below, under, opens, listHex, listFile}
 use Rattle.words.specs.Saying.Said.{passed, asks, unclear}
+use Rattle.session.specs.declared.standing.Reply.{Reply}
+use Rattle.session.specs.declared.standing.Reply.the-variants as reply
 use Rattle.session.specs.declared.standing.Standing.{Standing}
 use Rattle.session.specs.declared.standing.Standing.the-variants as standing
 
@@ -51,16 +52,32 @@ Draws (standing.Drawn o) pairs told after =
     ⊎ ((k : ℕ) × FirstUnknown pairs k × (told ≡ answer.PairRefused 12 k) × (after ≡ standing.Drawn o))
 Draws (standing.Rights o) pairs told after = (told ≡ answer.NotDrawn 12) × (after ≡ standing.Rights o)
 
--- what a command is answered
-abbrev pub Answers : Standing → Asked → Answer → Standing → Type 0
-Answers before (order kind) told after = (told ≡ answer.Ok) × FreshOf kind after
-Answers before (draw pairs) told after = Draws before pairs told after
-Answers before (below a b) told after = (told ≡ yesNo (meaning before a b)) × (after ≡ before)
-Answers before (under a b) told after = (told ≡ yesNo (setBelow (meaning before) a b)) × (after ≡ before)
-Answers before (opens set roles) told after = (told ≡ yesNo (opensTo (meaning before) set roles)) × (after ≡ before)
+-- these bytes are to be listed
+abbrev pub Lists : List ℕ → Reply → Type 0
+Lists bytes reply.Nothing = ⊥
+Lists bytes (reply.Answered told) = ⊥
+Lists bytes (reply.List sheet) = vec-items sheet ≡ bytes
+Lists bytes (reply.ListFile name) = ⊥
 
--- what a line is answered: one answer, or none where it is passed over
-abbrev pub Replies : Standing → Said → Option Answer → Standing → Type 0
-Replies before passed told after = (told ≡ None) × (after ≡ before)
-Replies before (asks asked) told after = (a : Answer) × (told ≡ Some a) × Answers before asked a after
-Replies before (unclear why) told after = (told ≡ Some (answer.Unclear why)) × (after ≡ before)
+-- the file of this name is to be listed
+abbrev pub ListsFile : List ℕ → Reply → Type 0
+ListsFile bytes reply.Nothing = ⊥
+ListsFile bytes (reply.Answered told) = ⊥
+ListsFile bytes (reply.List sheet) = ⊥
+ListsFile bytes (reply.ListFile name) = vec-items name ≡ bytes
+
+-- what a command calls for, and which order is in force after it
+abbrev pub Answers : Standing → Asked → Reply → Standing → Type 0
+Answers before (order kind) r after = (r ≡ reply.Answered answer.Ok) × FreshOf kind after
+Answers before (draw pairs) r after = (told : Answer) × (r ≡ reply.Answered told) × Draws before pairs told after
+Answers before (below a b) r after = (r ≡ reply.Answered (yesNo (meaning before a b))) × (after ≡ before)
+Answers before (under a b) r after = (r ≡ reply.Answered (yesNo (setBelow (meaning before) a b))) × (after ≡ before)
+Answers before (opens set roles) r after = (r ≡ reply.Answered (yesNo (opensTo (meaning before) set roles))) × (after ≡ before)
+Answers before (listHex bytes) r after = Lists bytes r × (after ≡ before)
+Answers before (listFile name) r after = ListsFile name r × (after ≡ before)
+
+-- what a line calls for: nothing where it is passed over
+abbrev pub Replies : Standing → Said → Reply → Standing → Type 0
+Replies before passed r after = (r ≡ reply.Nothing) × (after ≡ before)
+Replies before (asks asked) r after = Answers before asked r after
+Replies before (unclear why) r after = (r ≡ reply.Answered (answer.Unclear why)) × (after ≡ before)

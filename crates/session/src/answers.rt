@@ -5,6 +5,7 @@ ghost use Rattle.std.specs.Vec.{made};
 ghost use Rattle.order.specs.RoleSets.{setBelow, opensTo};
 ghost use Rattle.words.specs.Saying.{said, askedOf};
 ghost use Rattle.session.specs.Replies.{meaning, yesNo, FreshOf, DrawnFrom, Draws, Answers, Replies};
+use super::standing::Reply;
 use super::standing::Session;
 use super::standing::Standing;
 use answer::Answer;
@@ -96,29 +97,31 @@ impl Session {
         }
     }
 
-    fn answer(&mut self, command: Command) -> Answer
+    fn answer(&mut self, command: Command) -> Reply
         ensures answer { λ r. ⌜ Answers (now (self .entry) .order) (askedOf command) r (now (self .exit) .order) ⌝ }
     {
         match command {
             Command::Order(kind) => {
                 self.order = Standing::fresh(kind);
-                Answer::Ok
+                Reply::Answered(Answer::Ok)
             }
-            Command::Draw(pairs) => self.order.draw(pairs.as_slice()),
-            Command::Below { a, b } => yes_no(self.order.below(a, b)),
-            Command::Under { a, b } => yes_no(self.order.under(a, b)),
-            Command::Opens { set, roles } => yes_no(self.order.opens(set, roles)),
+            Command::Draw(pairs) => Reply::Answered(self.order.draw(pairs.as_slice())),
+            Command::Below { a, b } => Reply::Answered(yes_no(self.order.below(a, b))),
+            Command::Under { a, b } => Reply::Answered(yes_no(self.order.under(a, b))),
+            Command::Opens { set, roles } => Reply::Answered(yes_no(self.order.opens(set, roles))),
+            Command::ListHex(sheet) => Reply::List(sheet),
+            Command::ListFile(name) => Reply::ListFile(name),
         }
     }
 
-    // The answer to one line of input, or none where the line is passed over.
-    pub fn reply(&mut self, heap: Global, line: &[u8]) -> Result<Option<Answer>, AllocError>
-        ensures answer { λ r. ⌜ made r (λ told. Replies (now (self .entry) .order) (said (now (line .entry))) told (now (self .exit) .order)) ⌝ }
+    // What one line of input calls for.
+    pub fn reply(&mut self, heap: Global, line: &[u8]) -> Result<Reply, AllocError>
+        ensures answer { λ r. ⌜ made r (λ reply. Replies (now (self .entry) .order) (said (now (line .entry))) reply (now (self .exit) .order)) ⌝ }
     {
         match read_line(heap, line)? {
-            Line::Passed => Ok(None),
-            Line::Asks(command) => Ok(Some(self.answer(command))),
-            Line::Unclear(unclear) => Ok(Some(Answer::Unclear(unclear))),
+            Line::Passed => Ok(Reply::Nothing),
+            Line::Asks(command) => Ok(self.answer(command)),
+            Line::Unclear(unclear) => Ok(Reply::Answered(Answer::Unclear(unclear))),
         }
     }
 }

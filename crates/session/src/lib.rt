@@ -2,4 +2,5 @@
 mod answers;
 mod standing;
 
+pub use standing::Reply;
 pub use standing::Session;

@@ -1,4 +1,5 @@
 // What stands between two lines of input.
+use answer::Answer;
 use drawn::Drawn;
 use rights::Rights;
 
@@ -12,4 +13,16 @@ pub enum Standing {
 #[derive(Clone, Copy)]
 pub struct Session {
     pub(crate) order: Standing,
+}
+
+// What a line of input calls for.
+#[derive(Drop)]
+pub enum Reply {
+    // The line is passed over.
+    Nothing,
+    Answered(Answer),
+    // This sheet is to be listed.
+    List(Vec<u8>),
+    // The sheet in the file of this name is to be listed.
+    ListFile(Vec<u8>),
 }
