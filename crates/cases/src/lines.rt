@@ -1,10 +1,12 @@
 // The console's lines: both sides of each limit of what can be written.
+use super::sheets::first;
+use super::tells::tell;
 use answer::AnswerDisplay;
 use session::Reply;
 use session::Session;
 use std::io;
 
-const LINES: [&str; 40] = [
+const LINES: [&str; 44] = [
     "draw 31 0",
     "draw 32 0",
     "draw 0 31 0 32",
@@ -45,23 +47,25 @@ const LINES: [&str; 40] = [
     "list file a b",
     "list text 01",
     "list",
+    "",
+    "   ",
+    "# draw 1 2",
+    " \t#",
 ];
+
+fn reply(rt: &LibcRuntime, session: &mut Session, line: &str) -> io::Result<()> {
+    match session.reply(rt.alloc(), line.as_bytes())? {
+        Reply::Nothing => tell(rt, line, "(passed over)"),
+        Reply::Answered(answer) => tell(rt, line, answer.to_string(rt.alloc())?.as_str()),
+        Reply::List(sheet) => first(rt, line, sheet.as_slice()),
+        Reply::ListFile(_) => tell(rt, line, "(a file to be listed)"),
+    }
+}
 
 pub(crate) fn run(rt: &LibcRuntime) -> io::Result<()> {
     let mut session = Session::new();
     for line in LINES {
-        match session.reply(rt.alloc(), line.as_bytes())? {
-            Reply::Nothing => println!(rt, "{line} -> (passed over)")?,
-            Reply::Answered(answer) => println!(rt, "{line} -> {answer}")?,
-            Reply::List(sheet) => println!(rt, "{line} -> lists {sheet:?}")?,
-            Reply::ListFile(name) => println!(rt, "{line} -> lists the file {name:?}")?,
-        }
-    }
-    for line in ["", "   ", "# draw 1 2", " \t#"] {
-        match session.reply(rt.alloc(), line.as_bytes())? {
-            Reply::Nothing => println!(rt, "{line:?} is passed over")?,
-            _ => println!(rt, "{line:?} is not passed over")?,
-        }
+        reply(rt, &mut session, line)?;
     }
     Ok(())
 }

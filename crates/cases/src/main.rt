@@ -5,6 +5,7 @@ use std::io;
 mod lines;
 mod orders;
 mod sheets;
+mod tells;
 
 // The worked cases hold of the definitions that the contracts are stated with.
 pub fn worked_cases_hold()

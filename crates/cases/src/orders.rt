@@ -1,4 +1,6 @@
 // The orders of roles: the worked cases, then the codes and bits on both sides of each limit.
+use super::tells::tell;
+use super::tells::yes_no;
 use drawn::Drawn;
 use drawn::DrawnOrder;
 use order::Order;
@@ -14,10 +16,6 @@ use rights::Rights;
 use rights::RightsOrder;
 use std::io;
 
-fn word(holds: bool) -> &'static str {
-    if holds { "yes" } else { "no" }
-}
-
 // The order drawn from the pair (1, 2) alone.
 fn one_pair() -> Drawn {
     let mut order = Drawn::fresh();
@@ -25,31 +23,25 @@ fn one_pair() -> Drawn {
     order
 }
 
-// Each set with the roles that its name says.
 fn worked(rt: &LibcRuntime) -> io::Result<()> {
     let order = one_pair();
-    println!(
-        rt,
-        "{{0,1}} <= {{2}}: {}",
-        word(set_below(&order, 0b11, 0b100))
-    )?;
-    println!(
-        rt,
-        "{{0,2}} <= {{1}}: {}",
-        word(set_below(&order, 0b101, 0b10))
-    )?;
-    println!(
-        rt,
-        "{{0,1}} <= {{1,3}}: {}",
-        word(set_below(&order, 0b11, 0b1010))
-    )?;
-    println!(rt, "rights: 2 below 3: {}", word(Rights.at_or_below(2, 3)))?;
-    println!(rt, "rights: 3 below 2: {}", word(Rights.at_or_below(3, 2)))?;
-    println!(
-        rt,
-        "rights: 8 below 16: {}",
-        word(Rights.at_or_below(8, 16))
-    )
+    let sets: [(&str, RoleSet, RoleSet); 3] = [
+        ("{0,1} <= {2}", 0b11, 0b100),
+        ("{0,2} <= {1}", 0b101, 0b10),
+        ("{0,1} <= {1,3}", 0b11, 0b1010),
+    ];
+    for (question, a, b) in sets {
+        tell(rt, question, yes_no(set_below(&order, a, b)))?;
+    }
+    let codes: [(&str, Role, Role); 3] = [
+        ("rights: 2 below 3", 2, 3),
+        ("rights: 3 below 2", 3, 2),
+        ("rights: 8 below 16", 8, 16),
+    ];
+    for (question, a, b) in codes {
+        tell(rt, question, yes_no(Rights.at_or_below(a, b)))?;
+    }
+    Ok(())
 }
 
 const PAIRS: [(Role, Role); 9] = [
@@ -69,10 +61,10 @@ fn draws(rt: &LibcRuntime) -> io::Result<()> {
     for (a, b) in PAIRS {
         let mut order = one_pair();
         let drawn = order.draw(&[(3, 4), (a, b)]);
-        let kept = word(order.at_or_below(1, 2));
+        let kept = yes_no(order.at_or_below(1, 2));
         match drawn {
             Ok(()) => {
-                let holds = word(order.at_or_below(a, b));
+                let holds = yes_no(order.at_or_below(a, b));
                 println!(
                     rt,
                     "draw (3,4) ({a},{b}): ok; has it: {holds}; still (1,2): {kept}"
@@ -96,9 +88,9 @@ const CODES: [Role; 8] = [0, 1, 31, 32, 62, 63, 64, 4294967295];
 fn codes<O: Order>(rt: &LibcRuntime, name: &str, order: &O) -> io::Result<()> {
     let top = O::top_role();
     for code in CODES {
-        let itself = word(order.at_or_below(code, code));
-        let up = word(order.at_or_below(code, top));
-        let down = word(order.at_or_below(top, code));
+        let itself = yes_no(order.at_or_below(code, code));
+        let up = yes_no(order.at_or_below(code, top));
+        let down = yes_no(order.at_or_below(top, code));
         println!(
             rt,
             "{name}: {code} below itself: {itself}; below top: {up}; above top: {down}"
@@ -113,10 +105,10 @@ const BITS: [Role; 6] = [0, 1, 31, 32, 62, 63];
 fn sets<O: Order>(rt: &LibcRuntime, name: &str, order: &O) -> io::Result<()> {
     for role in BITS {
         let set: RoleSet = with_role(0, role);
-        let itself = word(set_below(order, set, set));
-        let opened = word(opens(order, set, with_role(0, O::top_role())));
-        let used = word(in_use::<O>(set));
-        let topped = word(holds_top::<O>(set));
+        let itself = yes_no(set_below(order, set, set));
+        let opened = yes_no(opens(order, set, with_role(0, O::top_role())));
+        let used = yes_no(in_use::<O>(set));
+        let topped = yes_no(holds_top::<O>(set));
         println!(
             rt,
             "{name}: {{{role}}} <= itself: {itself}; open to top: {opened}; in use: {used}; holds top: {topped}"
@@ -125,30 +117,25 @@ fn sets<O: Order>(rt: &LibcRuntime, name: &str, order: &O) -> io::Result<()> {
     Ok(())
 }
 
-fn empty<O: Order>(rt: &LibcRuntime, name: &str, order: &O) -> io::Result<()> {
-    println!(rt, "{name}: {{}} <= {{}}: {}", word(set_below(order, 0, 0)))?;
-    println!(
-        rt,
-        "{name}: {{}} <= {{1}}: {}",
-        word(set_below(order, 0, 2))
-    )?;
-    println!(
-        rt,
-        "{name}: {{1}} <= {{}}: {}",
-        word(set_below(order, 2, 0))
-    )?;
-    println!(
-        rt,
-        "{name}: {{1}} open to {{}}: {}",
-        word(opens(order, 2, 0))
-    )?;
-    println!(rt, "{name}: {{}} in use: {}", word(in_use::<O>(0)))
+fn empty(rt: &LibcRuntime) -> io::Result<()> {
+    let order = one_pair();
+    let sets: [(&str, RoleSet, RoleSet); 3] = [
+        ("{} and {}", 0, 0),
+        ("{} and {1}", 0, 2),
+        ("{1} and {}", 2, 0),
+    ];
+    for (question, a, b) in sets {
+        let under = yes_no(set_below(&order, a, b));
+        let opened = yes_no(opens(&order, a, b));
+        println!(rt, "{question}: <= {under}; open {opened}")?;
+    }
+    tell(rt, "{} in use", yes_no(in_use::<DrawnOrder>(0)))
 }
 
 fn places(rt: &LibcRuntime) -> io::Result<()> {
     let full = RoleSet::MAX;
     for role in CODES {
-        let there = word(has_role(full, role));
+        let there = yes_no(has_role(full, role));
         let put = with_role(0, role);
         println!(
             rt,
@@ -165,6 +152,6 @@ pub(crate) fn run(rt: &LibcRuntime) -> io::Result<()> {
     codes(rt, "rights", &Rights)?;
     sets(rt, "drawn", &one_pair())?;
     sets(rt, "rights", &Rights)?;
-    empty(rt, "drawn", &one_pair())?;
+    empty(rt)?;
     places(rt)
 }

@@ -1,15 +1,16 @@
 // The sheet: both sides of every limit of a number, the kinds around the nine, and a cut at each byte of a line of each kind.
+use super::tells::tell;
 use answer::AnswerDisplay;
 use listing::Listing;
 use listing::Told;
 use std::io;
 
 // What stands first in the sheet.
-fn first(rt: &LibcRuntime, name: &str, sheet: &[u8]) -> io::Result<()> {
+pub(crate) fn first(rt: &LibcRuntime, name: &str, sheet: &[u8]) -> io::Result<()> {
     let mut listing = Listing::new(sheet);
     match listing.next(rt.alloc())? {
-        Told::Line(text) => println!(rt, "{name} -> {text}"),
-        Told::End(answer) => println!(rt, "{name} -> {answer}"),
+        Told::Line(text) => tell(rt, name, text.as_str()),
+        Told::End(answer) => tell(rt, name, answer.to_string(rt.alloc())?.as_str()),
     }
 }
 
@@ -115,10 +116,10 @@ const LINES: [(&str, &[u8]); 9] = [
     ("job", &[9, 0, 0x80, 1, 1]),
 ];
 
+// The line cut at each of its bytes, and then whole.
 fn cuts(rt: &LibcRuntime) -> io::Result<()> {
     for (name, line) in LINES {
         for at in 0..line.len() {
-            print!(rt, "cut at {at}: ")?;
             first(rt, name, &line[0..at])?;
         }
         first(rt, name, line)?;

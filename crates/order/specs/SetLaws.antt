@@ -25,7 +25,7 @@ pub record SetsOrdered (count top : ℕ) (below : ℕ → ℕ → Bool) : Type 0
   pub inside : (a b : ℕ) → SetBelow below a b → (role : ℕ) → In role b → role < count
   -- every set that has a role is ≤ {top}
   pub topped : (a role : ℕ) → In role a → role < count → SetBelow below a (2 ^ top)
-  -- what opens for fewer roles opens for each of them, and a wider edge opens to whom the narrower opens
+  -- an edge whose set is ≤ that of an open edge is open too
   pub opens-up : (set set′ roles : ℕ) → SetBelow below set′ set → Opens below set roles → Opens below set′ roles
 
 -- the tests decide the sentences
