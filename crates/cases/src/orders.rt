@@ -1,6 +1,9 @@
 // The orders of roles: the worked cases, then the codes and bits on both sides of each limit.
+use super::tells::row;
 use super::tells::tell;
 use super::tells::yes_no;
+use answer::Answer;
+use answer::AnswerDisplay;
 use drawn::Drawn;
 use drawn::DrawnOrder;
 use order::Order;
@@ -44,41 +47,34 @@ fn worked(rt: &LibcRuntime) -> io::Result<()> {
     Ok(())
 }
 
-const PAIRS: [(Role, Role); 9] = [
-    (31, 0),
-    (0, 31),
-    (31, 30),
-    (32, 0),
-    (0, 32),
-    (32, 32),
-    (63, 64),
-    (0, 4294967295),
-    (4294967295, 0),
+const PAIRS: [(&str, Role, Role); 9] = [
+    ("draw (3,4) (31,0)", 31, 0),
+    ("draw (3,4) (0,31)", 0, 31),
+    ("draw (3,4) (31,30)", 31, 30),
+    ("draw (3,4) (32,0)", 32, 0),
+    ("draw (3,4) (0,32)", 0, 32),
+    ("draw (3,4) (32,32)", 32, 32),
+    ("draw (3,4) (63,64)", 63, 64),
+    ("draw (3,4) (0,4294967295)", 0, 4294967295),
+    ("draw (3,4) (4294967295,0)", 4294967295, 0),
 ];
 
-// A known pair stands before the one that is tried, so a refusal tells place 1.
+// A known pair stands before the one that is tried, so a refusal tells place 1, and keeps the pair (1, 2) of before.
 fn draws(rt: &LibcRuntime) -> io::Result<()> {
-    for (a, b) in PAIRS {
+    for (question, a, b) in PAIRS {
         let mut order = one_pair();
-        let drawn = order.draw(&[(3, 4), (a, b)]);
-        let kept = yes_no(order.at_or_below(1, 2));
-        match drawn {
-            Ok(()) => {
-                let holds = yes_no(order.at_or_below(a, b));
-                println!(
-                    rt,
-                    "draw (3,4) ({a},{b}): ok; has it: {holds}; still (1,2): {kept}"
-                )?;
-            }
+        match order.draw(&[(3, 4), (a, b)]) {
+            Ok(()) => tell(rt, question, "ok")?,
             Err(fault) => {
-                let number = fault.number();
-                let pair = fault.pair;
-                println!(
-                    rt,
-                    "draw (3,4) ({a},{b}): refused {number} pair {pair}; still (1,2): {kept}"
-                )?;
+                let answer = Answer::PairRefused {
+                    number: fault.number(),
+                    pair: fault.pair,
+                };
+                tell(rt, question, answer.to_string(rt.alloc())?.as_str())?;
             }
         }
+        tell(rt, "  has the pair", yes_no(order.at_or_below(a, b)))?;
+        tell(rt, "  has (1,2)", yes_no(order.at_or_below(1, 2)))?;
     }
     Ok(())
 }
@@ -87,62 +83,42 @@ const CODES: [Role; 8] = [0, 1, 31, 32, 62, 63, 64, 4294967295];
 
 fn codes<O: Order>(rt: &LibcRuntime, name: &str, order: &O) -> io::Result<()> {
     let top = O::top_role();
+    tell(
+        rt,
+        name,
+        "below itself, below top, above top, in the set of all bits",
+    )?;
     for code in CODES {
         let itself = yes_no(order.at_or_below(code, code));
         let up = yes_no(order.at_or_below(code, top));
         let down = yes_no(order.at_or_below(top, code));
-        println!(
-            rt,
-            "{name}: {code} below itself: {itself}; below top: {up}; above top: {down}"
-        )?;
+        let there = yes_no(has_role(RoleSet::MAX, code));
+        row(rt, name, code, [itself, up, down, there])?;
     }
     Ok(())
 }
 
-// A set of one role, at each place that a set of 64 bits has near a limit.
-const BITS: [Role; 6] = [0, 1, 31, 32, 62, 63];
-
+// A set of one role, for each code; a code above 63 makes the empty set.
 fn sets<O: Order>(rt: &LibcRuntime, name: &str, order: &O) -> io::Result<()> {
-    for role in BITS {
-        let set: RoleSet = with_role(0, role);
+    let top = with_role(0, O::top_role());
+    tell(rt, name, "{r} <= itself, open to top, in use, holds top")?;
+    for role in CODES {
+        let set = with_role(0, role);
         let itself = yes_no(set_below(order, set, set));
-        let opened = yes_no(opens(order, set, with_role(0, O::top_role())));
+        let opened = yes_no(opens(order, set, top));
         let used = yes_no(in_use::<O>(set));
         let topped = yes_no(holds_top::<O>(set));
-        println!(
-            rt,
-            "{name}: {{{role}}} <= itself: {itself}; open to top: {opened}; in use: {used}; holds top: {topped}"
-        )?;
+        row(rt, name, role, [itself, opened, used, topped])?;
     }
     Ok(())
 }
 
 fn empty(rt: &LibcRuntime) -> io::Result<()> {
     let order = one_pair();
-    let sets: [(&str, RoleSet, RoleSet); 3] = [
-        ("{} and {}", 0, 0),
-        ("{} and {1}", 0, 2),
-        ("{1} and {}", 2, 0),
-    ];
-    for (question, a, b) in sets {
-        let under = yes_no(set_below(&order, a, b));
-        let opened = yes_no(opens(&order, a, b));
-        println!(rt, "{question}: <= {under}; open {opened}")?;
-    }
-    tell(rt, "{} in use", yes_no(in_use::<DrawnOrder>(0)))
-}
-
-fn places(rt: &LibcRuntime) -> io::Result<()> {
-    let full = RoleSet::MAX;
-    for role in CODES {
-        let there = yes_no(has_role(full, role));
-        let put = with_role(0, role);
-        println!(
-            rt,
-            "role {role} in the full set: {there}; put into none: {put}"
-        )?;
-    }
-    Ok(())
+    tell(rt, "{} <= {}", yes_no(set_below(&order, 0, 0)))?;
+    tell(rt, "{} <= {1}", yes_no(set_below(&order, 0, 2)))?;
+    tell(rt, "{1} <= {}", yes_no(set_below(&order, 2, 0)))?;
+    tell(rt, "{1} open to {}", yes_no(opens(&order, 2, 0)))
 }
 
 pub(crate) fn run(rt: &LibcRuntime) -> io::Result<()> {
@@ -152,6 +128,5 @@ pub(crate) fn run(rt: &LibcRuntime) -> io::Result<()> {
     codes(rt, "rights", &Rights)?;
     sets(rt, "drawn", &one_pair())?;
     sets(rt, "rights", &Rights)?;
-    empty(rt)?;
-    places(rt)
+    empty(rt)
 }
