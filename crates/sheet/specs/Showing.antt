@@ -16,7 +16,7 @@ use Rattle.sheet.specs.declared.kinds.LineKind.the-variants.{Policy, Grant, Lo
 use Rattle.sheet.specs.declared.line.Line.{Line}
 use Rattle.sheet.specs.declared.line.Line.the-variants as line
 use Rattle.sheet.specs.declared.line.PlacedLine.{PlacedLine}
-use Rattle.sheet.specs.Fields.{readLine, stretch, Decodes}
+use Rattle.sheet.specs.Fields.{readLine, stretch}
 use Rattle.sheet.specs.Kinds.{codeOf}
 
 -- a line as it shows itself: its kind, and the bytes of its fields
@@ -63,9 +63,3 @@ abbrev pub Moves : Result (Option PlacedLine) ReadFault → ℕ → ℕ → Type
 Moves (Ok None) p q = p ≡ q
 Moves (Ok (Some l)) p q = p < q
 Moves (Err f) p q = p ≡ q
-
--- a stretch that is handed out always decodes
-abbrev pub HandedDecodes : Result (Option PlacedLine) ReadFault → Type 0
-HandedDecodes (Ok None) = Unit {0}
-HandedDecodes (Ok (Some l)) = Decodes (shows (l .line) .0) (shows (l .line) .1)
-HandedDecodes (Err f) = Unit {0}

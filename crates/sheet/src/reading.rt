@@ -2,7 +2,7 @@
 ghost use mathlib.Core.Path.{_≡_};
 ghost use Prim.Native.Nat.{_<_, _^_};
 ghost use lib.ListN.{length};
-ghost use Rattle.sheet.specs.Showing.{seen, shown, lineAt, placeAfter, frameAfter, Moves, HandedDecodes};
+ghost use Rattle.sheet.specs.Showing.{seen, shown, lineAt, placeAfter, frameAfter, Moves};
 use super::finding::find_line;
 use super::frame::Frame;
 use super::frame::Reader;
