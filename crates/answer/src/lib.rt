@@ -1,4 +1,6 @@
 // How an answer is written.
+#![tactic(auto)]
+
 mod answer;
 mod listed;
 

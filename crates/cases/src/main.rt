@@ -1,4 +1,6 @@
 // The worked cases: as theorems in one table, and run against the code, with both sides of every limit.
+#![tactic(auto)]
+
 ghost use Rattle.cases.specs.Worked.{WorkedCases};
 
 use std::io;

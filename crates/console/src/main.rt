@@ -1,5 +1,7 @@
 // The console: reads commands, one to a line, from the file named by its first argument, else from standard input, and
 // prints one answer for each. It only moves text: every answer is the session's or the listing's.
+#![tactic(auto)]
+
 use answer::Answer;
 use anyhow::anyhow;
 use listing::{Listing, Told};

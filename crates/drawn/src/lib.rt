@@ -1,4 +1,6 @@
 // Drawn orders: the order that presses use, drawn from pairs of roles.
+#![tactic(auto)]
+
 mod drawing;
 mod rows;
 

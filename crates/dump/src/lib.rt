@@ -1,4 +1,6 @@
 // The text of what the tables hold, line by line.
+#![tactic(auto)]
+
 mod field;
 mod finding;
 mod lines;

@@ -1,4 +1,6 @@
 // The host's memory: tables of fixed size, and the network that they hold.
+#![tactic(auto)]
+
 mod held;
 mod memory;
 mod sizing;

@@ -1,4 +1,6 @@
 // Both sides of every limit of loading and of shape, run against the code: one line for each, with what is answered.
+#![tactic(auto)]
+
 use std::io;
 
 mod counts;

@@ -1,4 +1,6 @@
 // What the reader sees of a sheet, line by line, as the console lists it.
+#![tactic(auto)]
+
 mod lister;
 mod told;
 

@@ -1,5 +1,7 @@
 // What the numbers of a row mean: contents, patterns, operands and verbs as enums. A row that means nothing has a kind that
 // does not exist, or a number other than 0 in a field that its kind does not use.
+#![tactic(auto)]
+
 mod contents;
 mod patterns;
 mod verbs;

@@ -1,4 +1,6 @@
 // How a number stands in a sheet: its reader, and the laws of its spelling.
+#![tactic(auto)]
+
 mod fault;
 mod reading;
 

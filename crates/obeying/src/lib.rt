@@ -1,4 +1,6 @@
 // The rules that grants and trees obey: which roles a disable may name, and which sets and scripts may lie where.
+#![tactic(auto)]
+
 mod grants;
 mod laws;
 mod matching;

@@ -1,4 +1,6 @@
 // Orders of roles and role sets: the layer that everything above rests on.
+#![tactic(auto)]
+
 mod relation;
 mod role_sets;
 

@@ -81,8 +81,8 @@ pub fn with_role(set: RoleSet, role: Role) -> RoleSet
 
 // Whether some role of the set is at or below the role. It asks the order at most once for each role of the set.
 pub fn some_below<O: Order>(order: &O, set: RoleSet, role: Role) -> bool
-    ensures answer { result ≡ some_below (below order.now) set role }
-    ensures says { Decides result (SomeBelow (below order.now) set role) }
+    ensures answer { result ≡ some_below (O.below order.now) set role }
+    ensures says { Decides result (SomeBelow (O.below order.now) set role) }
 {
     for x in roles_of(set) {
         if order.at_or_below(x, role) {
@@ -95,8 +95,8 @@ pub fn some_below<O: Order>(order: &O, set: RoleSet, role: Role) -> bool
 // a ≤ b: whether for every role of b some role of a is at or below it. It asks the order at most once for each pair of a
 // role of a and a role of b.
 pub fn set_below<O: Order>(order: &O, a: RoleSet, b: RoleSet) -> bool
-    ensures answer { result ≡ set_below (below order.now) a b }
-    ensures says { Decides result (SetBelow (below order.now) a b) }
+    ensures answer { result ≡ set_below (O.below order.now) a b }
+    ensures says { Decides result (SetBelow (O.below order.now) a b) }
 {
     for role in roles_of(b) {
         if !some_below(order, a, role) {
@@ -108,16 +108,16 @@ pub fn set_below<O: Order>(order: &O, a: RoleSet, b: RoleSet) -> bool
 
 // Whether an edge with the set is open to the roles.
 pub fn opens<O: Order>(order: &O, set: RoleSet, roles: RoleSet) -> bool
-    ensures answer { result ≡ opens_to (below order.now) set roles }
-    ensures says { Decides result (Opens (below order.now) set roles) }
+    ensures answer { result ≡ opens_to (O.below order.now) set roles }
+    ensures says { Decides result (Opens (O.below order.now) set roles) }
 {
     roles != 0 && set_below(order, set, roles)
 }
 
 // Whether the set can stand in a table: it is not empty, and each of its roles is one of the order's.
 pub fn in_use<O: Order>(set: RoleSet) -> bool
-    ensures answer { result ≡ in_use size set }
-    ensures says { Decides result (InUse size set) }
+    ensures answer { result ≡ in_use O.size set }
+    ensures says { Decides result (InUse O.size set) }
 {
     for role in roles_of(set) {
         if role >= O::role_count() {
@@ -138,7 +138,7 @@ pub fn in_use_of(count: Role, set: RoleSet) -> bool
 
 // Whether the order's top role is in the set.
 pub fn holds_top<O: Order>(set: RoleSet) -> bool
-    ensures answer { result ≡ has set peak }
+    ensures answer { result ≡ has set O.peak }
 {
     has_role(set, O::top_role())
 }

@@ -1,4 +1,6 @@
 // Writes one number of the host's tables, as a faulty host would.
+#![tactic(auto)]
+
 mod cells;
 mod edges;
 mod shelved;

@@ -1,4 +1,6 @@
 // The rows that the lines of a sheet spell, decoded from their stretches.
+#![tactic(auto)]
+
 mod row;
 
 pub use row::{

@@ -1,4 +1,6 @@
 // Whether tables have shape, and if not, the first place where they have none.
+#![tactic(auto)]
+
 mod all;
 mod place;
 mod shelves;

@@ -1,4 +1,6 @@
 // The sheet: the binary form in which an office files a whole house, and a reader that goes over it without copying it.
+#![tactic(auto)]
+
 mod finding;
 mod frame;
 mod kinds;

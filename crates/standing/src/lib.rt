@@ -1,5 +1,7 @@
 // Whether a row can stand in its table: what it names exists, its fields keep their limits, and it follows from the rows
 // before it.
+#![tactic(auto)]
+
 mod commands;
 mod lines;
 mod running;

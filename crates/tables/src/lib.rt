@@ -1,4 +1,6 @@
 // Loads a sheet into the host's tables. A state is a small value that is moved from call to call, and goes with tables.
+#![tactic(auto)]
+
 mod blank_state;
 mod closing;
 mod draft_state;

@@ -1,4 +1,6 @@
 // What a line of the console's input says.
+#![tactic(auto)]
+
 mod argument;
 mod cut;
 mod hex;

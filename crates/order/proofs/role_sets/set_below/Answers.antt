@@ -7,13 +7,13 @@ use Rattle.order.proofs.role_sets.set_below.Goals as goal
 
 pub loop-role-preserved : goal.loop-role-preserved
 loop-role-preserved g c =
-    (tt, tt, searched_more c.loop-role.invariant.2 c.in-Some.ensures.steps (c.some-below.ensures.says.0 c.if-not-some-below.false))
+    (tt, tt, searched_more c.loop-role.invariant.2 c.in-Some.ensures.steps (c.some_below.ensures.says.0 c.if-not-some_below.false))
 
-pub returns-then-not-some-below : goal.returns-then-not-some-below
-returns-then-not-some-below g c =
+pub returns-then-not-some_below : goal.returns-then-not-some_below
+returns-then-not-some_below g c =
     let below = g.O.Order.below c.args.order.now in
     let says = Decides-no {P = SetBelow below c.args.a c.args.b}
-    (λ p. not_from_Decides _ c.some-below.ensures.says c.if-not-some-below.true
+    (λ p. not_from_Decides _ c.some_below.ensures.says c.if-not-some_below.true
     (p c.in-Some.role (c.loop-role.invariant.2.rest c.in-Some.role c.in-Some.ensures.steps.member))) in
     record { answer = same_from_decides _ _ says (Decides-set_below below c.args.a c.args.b (omega arith) (omega arith)); says = says }
 

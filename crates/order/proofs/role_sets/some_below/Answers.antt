@@ -6,11 +6,11 @@ use Rattle.order.proofs.Searches.{searched_all}
 use Rattle.order.proofs.Tests.{Decides-yes, Decides-no, Decides-some_below}
 use Rattle.order.proofs.role_sets.some_below.Goals as goal
 
-pub returns-then-at-or-below : goal.returns-then-at-or-below
-returns-then-at-or-below g c =
+pub returns-then-at_or_below : goal.returns-then-at_or_below
+returns-then-at_or_below g c =
     let below = g.O.Order.below c.args.order.now in
     let says = Decides-yes {P = SomeBelow below c.args.set c.args.role}
-    (c.in-Some.x, c.loop-x.invariant.2.rest c.in-Some.x c.in-Some.ensures.steps.member, sym c.if-at-or-below.ensures.answer) in
+    (c.in-Some.x, c.loop-x.invariant.2.rest c.in-Some.x c.in-Some.ensures.steps.member, sym c.if-at_or_below.ensures.answer) in
     record { answer = same_from_decides _ _ says (Decides-some_below below c.args.set c.args.role (omega arith)); says = says }
 
 pub returns : goal.returns
