@@ -14,11 +14,11 @@ returns-then-scale-gt1 c = record {
   within = tt;
 }
 
-pub overflow-mul-result : goal.overflow-mul-result
-overflow-mul-result c = omega (arith, fit _ _ _ _ _ _ _ c.loop-place.invariant c.loop-place-test.true c.if-digit-limit.false)
+pub overflow_mul-result : goal.overflow_mul-result
+overflow_mul-result c = omega (arith, fit _ _ _ _ _ _ _ c.loop-place.invariant c.loop-place-test.true c.if-digit-limit.false)
 
-pub overflow-add-result : goal.overflow-add-result
-overflow-add-result c = omega (arith, fit _ _ _ _ _ _ _ c.loop-place.invariant c.loop-place-test.true c.if-digit-limit.false)
+pub overflow_add-result : goal.overflow_add-result
+overflow_add-result c = omega (arith, fit _ _ _ _ _ _ _ c.loop-place.invariant c.loop-place-test.true c.if-digit-limit.false)
 
 pub returns-then-digit-lt128 : goal.returns-then-digit-lt128
 returns-then-digit-lt128 c =
@@ -33,14 +33,14 @@ returns-then-digit-lt128 c =
       );
     }
 
-pub overflow-mul-value : goal.overflow-mul-value
-overflow-mul-value c = omega (arith, high_fit _ _ _ _ _ _ _ c.loop-place.invariant c.loop-place-test.true c.if-digit-limit.false c.if-digit-lt128.false)
+pub overflow_mul-value : goal.overflow_mul-value
+overflow_mul-value c = omega (arith, high_fit _ _ _ _ _ _ _ c.loop-place.invariant c.loop-place-test.true c.if-digit-limit.false c.if-digit-lt128.false)
 
-pub overflow-add-value : goal.overflow-add-value
-overflow-add-value c = omega (arith, high_fit _ _ _ _ _ _ _ c.loop-place.invariant c.loop-place-test.true c.if-digit-limit.false c.if-digit-lt128.false)
+pub overflow_add-value : goal.overflow_add-value
+overflow_add-value c = omega (arith, high_fit _ _ _ _ _ _ _ c.loop-place.invariant c.loop-place-test.true c.if-digit-limit.false c.if-digit-lt128.false)
 
-pub overflow-mul-scale : goal.overflow-mul-scale
-overflow-mul-scale c = omega (arith, high_fit _ _ _ _ _ _ _ c.loop-place.invariant c.loop-place-test.true c.if-digit-limit.false c.if-digit-lt128.false)
+pub overflow_mul-scale : goal.overflow_mul-scale
+overflow_mul-scale c = omega (arith, high_fit _ _ _ _ _ _ _ c.loop-place.invariant c.loop-place-test.true c.if-digit-limit.false c.if-digit-lt128.false)
 
 pub loop-place-preserved : goal.loop-place-preserved
 loop-place-preserved c =

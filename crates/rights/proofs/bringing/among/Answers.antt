@@ -7,4 +7,4 @@ unfolding rights_below
 returns c =
     let low = lt-ltb c.args.a 64 c.requires.0 in
     let high = lt-ltb c.args.b 64 c.requires.1 in
-    record { answer = rw (c.brought-by-mine.ensures.answer, c.brought-by.ensures.answer, low, high) }
+    record { answer = rw (c.brought_by-mine.ensures.answer, c.brought_by.ensures.answer, low, high) }

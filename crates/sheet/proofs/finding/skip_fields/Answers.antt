@@ -5,12 +5,12 @@ use Rattle.sheet.specs.Fields.{fields_end}
 use Rattle.sheet.proofs.Skips.{skip_ok, skip_err}
 use Rattle.sheet.proofs.finding.skip_fields.Goals as goal
 
-pub returns-in-err-place : goal.returns-in-err-place
-returns-in-err-place c =
+pub returns-in_err-place : goal.returns-in_err-place
+returns-in_err-place c =
     let l = c.loop-width in
-    let read = sym c.read-number.ensures.answer ∙ c.in-err-place.was in
+    let read = sym c.read_number.ensures.answer ∙ c.in_err-place.was in
     let s = skip_err c.args.widths.now l.width-index l.place c.args.bytes.now _ c.loop-width-test.true _ read in
-    let p = err_from_is_err_and c.from-residual.result c.from-residual.ensures.1 in
+    let p = err_from_is_err_and c.from_residual.result c.from_residual.ensures.1 in
     record {
       answer = p.1 ∙ ap Err p.2 ∙ sym s ∙ l.invariant.2;
       within = rw p.1 tt;
@@ -19,8 +19,8 @@ returns-in-err-place c =
 pub loop-width-preserved : goal.loop-width-preserved
 loop-width-preserved c =
     let l = c.loop-width in
-    let read = sym c.read-number.ensures.answer ∙ c.in-ok-place.was in
-    let within = c.in-ok-place.ensures.within in (
+    let read = sym c.read_number.ensures.answer ∙ c.in_ok-place.was in
+    let within = c.in_ok-place.ensures.within in (
       omega (arith, l.invariant.0),
       within.1,
       sym (skip_ok c.args.widths.now l.width-index l.place c.args.bytes.now _ c.loop-width-test.true _ read) ∙ l.invariant.2,

@@ -5,13 +5,13 @@ use Rattle.words.specs.Saying.{held, hex_at}
 use Rattle.words.proofs.Places.{read_at, missing_at, held-or}
 use Rattle.words.proofs.argument.hex_at.Goals as goal
 
-pub returns-in-ok-hex-bytes : goal.returns-in-ok-hex-bytes
+pub returns-in_ok-hex_bytes : goal.returns-in_ok-hex_bytes
 unfolding hex_at
-returns-in-ok-hex-bytes c =
+returns-in_ok-hex_bytes c =
     let at = c.in-Some.ensures.lookup in
     record {
-      answer = read_at hex_bytes NotHexadecimal c.args.words.now c.args.place c.in-Some.word.now _ _ at.3.0 at.1 c.in-ok-hex-bytes.ensures.answer
-          (ap held c.ok-or.ensures.value ∙ held-or _ _);
+      answer = read_at hex_bytes NotHexadecimal c.args.words.now c.args.place c.in-Some.word.now _ _ at.3.0 at.1 c.in_ok-hex_bytes.ensures.answer
+          (ap held c.ok_or.ensures.value ∙ held-or _ _);
     }
 
 pub returns-in-None : goal.returns-in-None

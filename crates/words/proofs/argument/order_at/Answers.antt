@@ -7,7 +7,7 @@ pub returns-in-Some : goal.returns-in-Some
 unfolding order_at
 returns-in-Some c =
     let at = c.in-Some.ensures.lookup in
-    record { answer = read_at order_of NotAnOrder c.args.words.now c.args.place c.in-Some.word.now _ _ at.3.0 at.1 c.order-of.ensures.answer c.ok-or.ensures.value }
+    record { answer = read_at order_of NotAnOrder c.args.words.now c.args.place c.in-Some.word.now _ _ at.3.0 at.1 c.order_of.ensures.answer c.ok_or.ensures.value }
 
 pub returns-in-None : goal.returns-in-None
 unfolding order_at

@@ -8,7 +8,7 @@ pub returns-in-Some : goal.returns-in-Some
 unfolding set_at
 returns-in-Some c =
     let at = c.in-Some.ensures.lookup in
-    record { answer = read_at role_set NotARoleSet c.args.words.now c.args.place c.in-Some.word.now _ _ at.3.0 at.1 c.role-set.ensures.answer c.ok-or.ensures.value }
+    record { answer = read_at role_set NotARoleSet c.args.words.now c.args.place c.in-Some.word.now _ _ at.3.0 at.1 c.role_set.ensures.answer c.ok_or.ensures.value }
 
 pub returns-in-None : goal.returns-in-None
 unfolding set_at

@@ -4,11 +4,11 @@ use Rattle.words.specs.Saying.{word_at}
 use Rattle.words.proofs.Places.{read_at, missing_at}
 use Rattle.words.proofs.argument.word_at.Goals as goal
 
-pub returns-in-ok-from-slice : goal.returns-in-ok-from-slice
+pub returns-in_ok-from_slice : goal.returns-in_ok-from_slice
 unfolding word_at
-returns-in-ok-from-slice c =
+returns-in_ok-from_slice c =
     let at = c.in-Some.ensures.lookup in
-    record { answer = read_at Some Missing c.args.words.now c.args.place c.in-Some.word.now _ _ at.3.0 at.1 (ap Some c.in-ok-from-slice.ensures.items) refl }
+    record { answer = read_at Some Missing c.args.words.now c.args.place c.in-Some.word.now _ _ at.3.0 at.1 (ap Some c.in_ok-from_slice.ensures.items) refl }
 
 pub returns-in-None : goal.returns-in-None
 unfolding word_at

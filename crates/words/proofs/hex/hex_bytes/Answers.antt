@@ -6,12 +6,12 @@ use Rattle.words.proofs.hex.hex_bytes.Goals as goal
 pub returns-then-word-ne0 : goal.returns-then-word-ne0
 returns-then-word-ne0 c = record { answer = odd c.args.word.now c.if-word-ne0.true }
 
-pub returns-in-default : goal.returns-in-default
-returns-in-default c = record { answer = no_byte c.loop-i.invariant (omega arith) c.in-default.ensures.answer }
+pub returns-in_default : goal.returns-in_default
+returns-in_default c = record { answer = no_byte c.loop-i.invariant (omega arith) c.in_default.ensures.answer }
 
 pub loop-i-preserved : goal.loop-i-preserved
 loop-i-preserved c =
-    let pushed = chosen _ _ _ _ c.push.ensures.items (ap is_ok c.in-ok-push.was) in
+    let pushed = chosen _ _ _ _ c.push.ensures.items (ap is_ok c.in_ok-push.was) in
     one_more c.loop-i.invariant (omega arith) c.in-Some.byte _ c.in-Some.ensures.answer pushed
 
 pub returns : goal.returns

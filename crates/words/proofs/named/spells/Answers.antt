@@ -5,5 +5,5 @@ use Rattle.words.proofs.named.spells.Goals as goal
 
 pub returns : goal.returns
 returns c =
-    let same = rw c.as-bytes.ensures.value at (slice_eq-Decides Decides-eqb _ _ _ c.eq.ensures) in
+    let same = rw c.as_bytes.ensures.value at (slice_eq-Decides Decides-eqb _ _ _ c.eq.ensures) in
     record { answer = same_from_decides _ _ same (bytes_eq-Decides c.args.word.now c.args.text.now) }

@@ -2,5 +2,5 @@ use Rattle.std.proofs.Common.{arith, true-eqb}
 use Rattle.words.proofs.Says.{no_note}
 use Rattle.words.proofs.read.is_note.Goals as goal
 
-pub returns-then-is-empty : goal.returns-then-is-empty
-returns-then-is-empty c = record { answer = no_note c.args.word.now (true-eqb _ 0 c.if-is-empty.ensures) }
+pub returns-then-is_empty : goal.returns-then-is_empty
+returns-then-is_empty c = record { answer = no_note c.args.word.now (true-eqb _ 0 c.if-is_empty.ensures) }
