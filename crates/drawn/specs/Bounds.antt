@@ -1,7 +1,8 @@
 -- The rows inside and outside of the 32 roles.
 use Rattle.std.specs.Prelude.{◌≡◌, ℕ, ◌<◌, ◌≤◌, Bool, true, false, ◌&&◌, ◌⊎◌, List, nat_lt, slice_index}
 use Rattle.std.proofs.Common.{inl, inr, lit<, lit≤}
-use Rattle.std.proofs.Math.Logic.{∥∥₁_elim}
+use mathlib.Core.Bool.{Bool-set}
+use mathlib.Core.Logic.{∥∥₁_elim}
 use Rattle.std.proofs.lemmas.Bool.{and_parts, and_left, and_right, lt-ltb, le-ltb, ltb-true}
 use Rattle.order.specs.Laws.{Lawful, Transitive}
 use Rattle.order.specs.RoleSets.{has}
@@ -35,3 +36,7 @@ module _ (rows : List ℕ) where
     transitive = transitive;
     topmost = topmost;
   }
+
+  -- the law that a drawn order keeps as a fact with no content of its own
+  pub rows_transitive : ∥ Transitive (rows_below rows) ∥₁ → Transitive (rows_below rows)
+  rows_transitive kept a b c p q = ∥∥₁_elim kept (Bool-set _ _) (λ t. t a b c p q)

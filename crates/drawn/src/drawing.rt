@@ -26,7 +26,7 @@ fn first_unknown(pairs: &[(Role, Role)]) -> Option<usize>
     ensures answer { MatchOption result (All-known pairs.now) (FirstUnknown pairs.now) }
 {
     for (k, pair) in pairs.iter().enumerate() {
-        if pair.0 >= <Drawn as order::Order>::COUNT || pair.1 >= <Drawn as order::Order>::COUNT {
+        if pair.0 >= Drawn::COUNT || pair.1 >= Drawn::COUNT {
             return Some(k);
         }
     }

@@ -2,8 +2,8 @@
 ghost use Rattle.std.specs.Prelude.{◌≡◌, ℕ, ◌<◌, true};
 ghost use Rattle.order.specs.Laws.{Transitive};
 ghost use Rattle.drawn.specs.Rows.{rows_below};
-ghost use Rattle.drawn.specs.Bounds.{rows_within};
-ghost use Rattle.std.proofs.Common.{rules, arith};
+ghost use Rattle.drawn.specs.Bounds.{rows_within, rows_lawful, rows_transitive};
+ghost use Rattle.std.proofs.Common.{lit<, lit≤};
 
 use order::{Order, Role, RoleSet, has_role};
 
@@ -37,15 +37,19 @@ impl Order for Drawn {
 
     ghost below = { λ s. rows_below s.rows };
 
-    ghost few = { first_of (Prim.search rules, Prim.grind (arith, Self.row.coded.inj)) };
+    ghost few = { lit≤ tt };
 
-    ghost inside = { first_of (Prim.search rules, Prim.grind (arith, Self.row.coded.inj)) };
+    ghost inside = { lit< tt };
 
     ghost within = { λ s. rows_within s.rows };
 
-    ghost reflexive = { first_of (Prim.search rules, Prim.grind (arith, Self.row.coded.inj)) };
+    ghost reflexive = { λ s. s.reflexive };
 
-    ghost topmost = { first_of (Prim.search rules, Prim.grind (arith, Self.row.coded.inj)) };
+    ghost transitive = { λ s. rows_transitive s.rows s.transitive };
+
+    ghost topmost = { λ s. s.topmost };
+
+    ghost lawful = { λ s. rows_lawful s.rows s.reflexive (rows_transitive s.rows s.transitive) s.topmost };
 
     fn role_count() -> u32 {
         Self::COUNT

@@ -30,5 +30,5 @@ unfoldable pub rights_below : ℕ → ℕ → Bool
 rights_below a b = nat_lt a 64 && (nat_lt b 64 && bit_and (brought a) (brought b) == brought a)
 
 -- the test decides the sentence
-abbrev pub Test-says-among : Type 0
-Test-says-among = (a b : ℕ) → Decides (rights_below a b) (AtOrBelow a b)
+abbrev pub TestSaysAmong : Type 0
+TestSaysAmong = (a b : ℕ) → Decides (rights_below a b) (AtOrBelow a b)

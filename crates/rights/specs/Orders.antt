@@ -6,7 +6,7 @@ use Rattle.std.proofs.lemmas.Nat.{and_mask}
 use Rattle.std.proofs.lemmas.Bool.{and_parts, and_from, ltb-true, lt-ltb, eqb-true, eq-eqb}
 use Rattle.order.specs.Laws.{Lawful}
 use Rattle.order.specs.RoleSets.{has}
-use Rattle.rights.specs.Bringing.{AtOrBelow, brought_to, brought, rights_below, Test-says-among}
+use Rattle.rights.specs.Bringing.{AtOrBelow, brought_to, brought, rights_below, TestSaysAmong}
 use Rattle.rights.specs.Parts.{brought-small, brought-brings, brings_brought, and_part, part_and}
 
 parts : (a b : ℕ) → rights_below a b ≡ true → (a < 64) × (b < 64) × (bit_and (brought a) (brought b) ≡ brought a)
@@ -40,7 +40,7 @@ rights_lawful = record {
       made a 63 h (lit< tt) (ap (λ (n : ℕ). bit_and (brought a) n) all_six ∙ and_mask (brought a) 6 ∙ mod-eq_of_lt (brought-small a 6));
 }
 
-pub says_among : Test-says-among
+pub says_among : TestSaysAmong
 says_among a b = (
   λ t.
       let p = parts a b t in

@@ -1,8 +1,8 @@
 // Role a is at or below role b when all that a's rights bring is among what b's bring.
 ghost use Rattle.std.specs.Prelude.{◌≡◌, ◌<◌};
-ghost use Rattle.rights.specs.Bringing.{brought, rights_below, Test-says-among};
+ghost use Rattle.rights.specs.Bringing.{brought, rights_below, TestSaysAmong};
 ghost use Rattle.rights.specs.Orders.{rights_lawful};
-ghost use Rattle.std.proofs.Common.{rules};
+ghost use Rattle.std.proofs.Common.{lit<, lit≤};
 
 use order::{Order, Role, RoleSet, has_role};
 
@@ -48,9 +48,9 @@ impl Order for Rights {
 
     ghost below = { λ _. rights_below };
 
-    ghost few = { Prim.search rules };
+    ghost few = { lit≤ tt };
 
-    ghost inside = { Prim.search rules };
+    ghost inside = { lit< tt };
 
     ghost within = { λ s. rights_lawful.within };
 
@@ -77,5 +77,5 @@ impl Order for Rights {
 
 // The order's test says what the words say, for any two numbers.
 pub fn test_says_among()
-    ensures law { Test-says-among }
+    ensures law { TestSaysAmong }
 {}

@@ -9,5 +9,5 @@ loop-a-preserved c =
       length-set _ _ _ ∙ c.loop-a.invariant.0,
       below_more _ _
           (λ k h. let other : k ≢ c.loop-a.a = omega arith in get_or-set_other rows a k _ 0 other ∙ c.loop-a.invariant.1 k h)
-          (get_or-set_same rows a _ 0 inside ∙ c.with-role.ensures.answer (omega arith)),
+          (get_or-set_same rows a _ 0 inside ∙ c.with_role.ensures.answer (omega arith)),
     )

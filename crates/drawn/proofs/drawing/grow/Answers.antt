@@ -4,7 +4,7 @@ use Rattle.std.proofs.lemmas.Bool.{cond-true, cond-false}
 use Rattle.order.specs.RoleSets.{has}
 use Rattle.drawn.specs.Pairs.{grown_row}
 use Rattle.drawn.proofs.drawing.grow.Goals as goal
-use Rattle.drawn.proofs.drawing.grow.Goals.{then-has-role, else-has-role}
+use Rattle.drawn.proofs.drawing.grow.Goals.{then-has_role, else-has_role}
 
 -- the first x rows have grown, and the others are as they were
 abbrev Upto : (rows out : List ℕ) (a b x : ℕ) → Type 0
@@ -36,11 +36,11 @@ loop-x-preserved c =
     let rows = c.args.rows.now in
     let x = c.loop-x.x in
     let P : List ℕ → Type 0 = λ out. Upto c.args.rows.now out c.args.a c.args.b (c.loop-x.x + 1) in
-    elim c.if-has-role.branch [
-      | then-has-role w ↦
+    elim c.if-has_role.branch [
+      | then-has_role w ↦
           subst P (sym w.grown-is)
-          (written rows c.loop-x.grown c.args.a c.args.b x c.loop-x-test.true c.loop-x.invariant (sym c.has-role.ensures.answer ∙ w.if-has-role.true))
-      | else-has-role w ↦
+          (written rows c.loop-x.grown c.args.a c.args.b x c.loop-x-test.true c.loop-x.invariant (sym c.has_role.ensures.answer ∙ w.if-has_role.true))
+      | else-has_role w ↦
           subst P (sym w.grown-is)
-          (left rows c.loop-x.grown c.args.a c.args.b x c.loop-x.invariant (sym c.has-role.ensures.answer ∙ w.if-has-role.false))
+          (left rows c.loop-x.grown c.args.a c.args.b x c.loop-x.invariant (sym c.has_role.ensures.answer ∙ w.if-has_role.false))
     ]

@@ -9,11 +9,11 @@ use Rattle.drawn.proofs.rows.Drawn.least.Goals as goal
 
 pub loop-pair-init : goal.loop-pair-init
 loop-pair-init c =
-    (only_top-contained _ _ c.no-pairs-order.ensures.answer, λ k h. absurd (not-suc-le-zero h))
+    (only_top-contained _ _ c.no_pairs-order.ensures.answer, λ k h. absurd (not-suc-le-zero h))
 
 pub loop-pair-preserved : goal.loop-pair-preserved
 loop-pair-preserved c =
-    let e = c.with-pair-order.ensures.answer in
+    let e = c.with_pair-order.ensures.answer in
     let order = c.loop-pair.order in
     let inv = c.loop-pair.invariant in
     let k = c.loop-pair.pair-index in
