@@ -1,7 +1,7 @@
 // Drawing: the least order that has the given pairs, or a refusal that changes nothing.
 ghost use Rattle.std.specs.Prelude.{◌≡◌, ℕ, ◌^◌, ◌<◌, [], MatchOption, MatchResult, OnErr, bit_or, slice_index};
 ghost use Rattle.drawn.specs.Rows.{rows_below};
-ghost use Rattle.drawn.specs.Draws.{Least, Known, All-known, FirstUnknown};
+ghost use Rattle.drawn.specs.Draws.{Least, Known, AllKnown, FirstUnknown};
 ghost use Rattle.drawn.specs.Faults.{refusal, Refused};
 ghost use Rattle.drawn.specs.Pairs.{only_top, joined, grown_row};
 
@@ -23,7 +23,7 @@ impl DrawFault {
 }
 
 fn first_unknown(pairs: &[(Role, Role)]) -> Option<usize>
-    ensures answer { MatchOption result (All-known pairs.now) (FirstUnknown pairs.now) }
+    ensures answer { MatchOption result (AllKnown pairs.now) (FirstUnknown pairs.now) }
 {
     for (k, pair) in pairs.iter().enumerate() {
         if pair.0 >= Drawn::COUNT || pair.1 >= Drawn::COUNT {
@@ -78,7 +78,7 @@ impl Drawn {
     }
 
     fn least(pairs: &[(Role, Role)]) -> Drawn
-        requires { All-known pairs.now }
+        requires { AllKnown pairs.now }
         ensures answer { Least pairs.now (rows_below result.rows) }
     {
         let mut order = Drawn::no_pairs();

@@ -7,13 +7,13 @@ use Rattle.sheet.specs.Laws.{Bytes, Handed, Stops, texts, SheetLaws}
 use Rattle.sheet.proofs.Inversions.{none_at_end}
 use Rattle.sheet.proofs.Spelled.{take_parts, line-spelled}
 
-abbrev Read-through : List ℕ → ℕ → Type 0
-Read-through bytes p = (fs : List Found) × (q : ℕ) × Handed bytes p fs q × Stops bytes q
+abbrev ReadThrough : List ℕ → ℕ → Type 0
+ReadThrough bytes p = (fs : List Found) × (q : ℕ) × Handed bytes p fs q × Stops bytes q
 
 -- one line, and then the rest
 at-line : (bytes : List ℕ) → Bytes bytes → (n p : ℕ) → length bytes - p < suc n → p ≤ length bytes
-    → ((p' : ℕ) → length bytes - p' < n → p' ≤ length bytes → Read-through bytes p')
-    → (r : Result (Option Found) ReadFault) → read_line p bytes ≡ r → Read-through bytes p
+    → ((p' : ℕ) → length bytes - p' < n → p' ≤ length bytes → ReadThrough bytes p')
+    → (r : Result (Option Found) ReadFault) → read_line p bytes ≡ r → ReadThrough bytes p
 at-line bytes small n p few le rest (Err f) e = ([], p, refl, inr (f, e))
 at-line bytes small n p few le rest (Ok None) e = ([], p, refl, inl (none_at_end bytes p e))
 at-line bytes small n p few le rest (Ok (Some f)) e =
@@ -22,7 +22,7 @@ at-line bytes small n p few le rest (Ok (Some f)) e =
     let more = rest f.end (omega (arith, on.0, on.1, on.2)) on.2 in
     (f ∷ more.0, more.1, (e, more.2), more.3)
 
-through : (bytes : List ℕ) → Bytes bytes → (n p : ℕ) → length bytes - p < n → p ≤ length bytes → Read-through bytes p
+through : (bytes : List ℕ) → Bytes bytes → (n p : ℕ) → length bytes - p < n → p ≤ length bytes → ReadThrough bytes p
 through bytes small zero p few le = absurd (omega arith)
 through bytes small (suc n) p few le = at-line bytes small n p few le (through bytes small n) (read_line p bytes) refl
 

@@ -33,13 +33,13 @@ none_line sheet (Ok None) e = refl
 none_line sheet (Ok (Some g)) e = absurd (let z : ◌≡◌ {A = ℕ} 0 1 = cc in omega arith)
 none_line sheet (Err g) e = absurd (let z : ◌≡◌ {A = ℕ} 0 1 = cc in omega arith)
 
-pub record Line-read (sheet : List ℕ) (r : Answer) (kind : LineKind) (bytes : List ℕ) : Type 0 where
+pub record LineRead (sheet : List ℕ) (r : Answer) (kind : LineKind) (bytes : List ℕ) : Type 0 where
   pub line : Found
   pub read : r ≡ Ok (Some line)
   pub kind_is : kind ≡ line.kind
   pub bytes_are : bytes ≡ stretch sheet line
 
-pub some-line : (sheet : List ℕ) (r : Answer) (kind : LineKind) (bytes : List ℕ) (p : ℕ) → Ok (Some (kind, bytes, p)) ≡ shown sheet r → Line-read sheet r kind bytes
+pub some-line : (sheet : List ℕ) (r : Answer) (kind : LineKind) (bytes : List ℕ) (p : ℕ) → Ok (Some (kind, bytes, p)) ≡ shown sheet r → LineRead sheet r kind bytes
 some-line sheet (Ok None) kind bytes p e = absurd (let z : ◌≡◌ {A = ℕ} 0 1 = cc in omega arith)
 some-line sheet (Err g) kind bytes p e = absurd (let z : ◌≡◌ {A = ℕ} 0 1 = cc in omega arith)
 some-line sheet (Ok (Some g)) kind bytes p e =

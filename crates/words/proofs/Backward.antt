@@ -6,7 +6,7 @@ use Rattle.std.proofs.lemmas.Fmt.{decimal_nonempty, digits_decimal, digits_value
 use Rattle.std.proofs.lemmas.Str.Parse.{IsNumeralModel, numerals_by_weight, tells_all_ascii_digits}
 use Rattle.std.proofs.lemmas.Bool.{cond-true, cond-false, cond_both, le-leb}
 use Rattle.words.specs.Cutting.{is_blank, longer, stretches, filled}
-use Rattle.words.specs.Laws.{Codes-read-back, Word, spaced, Lines-hold-words, Words-read-back}
+use Rattle.words.specs.Laws.{CodesReadBack, Word, spaced, LinesHoldWords, WordsReadBack}
 use Rattle.words.specs.Spelling.{worth, numeral, at_most}
 use Rattle.words.proofs.Lines.{filled-some}
 
@@ -18,7 +18,7 @@ unfolding numeral
 numeral-is [] some all = absurd (omega arith)
 numeral-is (d ∷ ds) some all = cond-true _ _ _ all
 
-pub codes_read_back : Codes-read-back
+pub codes_read_back : CodesReadBack
 codes_read_back n small =
     let fits : n < 2 ^ 64 = omega arith in
     ap (at_most 4294967295) (numeral-is (decimal n) (decimal_nonempty n fits) (digits_decimal own n fits) ∙ ap Some (digits_value-decimal own n fits))
@@ -40,7 +40,7 @@ filled-words [] all = tt
 filled-words ([] ∷ ws) all = filled-words ws all.1
 filled-words ((b ∷ w) ∷ ws) all = ((omega arith, all.0), filled-words ws all.1)
 
-pub lines_hold_words : Lines-hold-words
+pub lines_hold_words : LinesHoldWords
 lines_hold_words line = filled-words _ (dark_stretches line)
 
 -- the first blank ends the first stretch
@@ -48,7 +48,7 @@ cut_after : (w rest : List ℕ) → Dark w → stretches is_blank (w ++ (32 ∷ 
 cut_after [] rest dark = refl
 cut_after (b ∷ w) rest dark = cond-false _ _ _ dark.0 ∙ ap (longer b) (cut_after w rest dark.1)
 
-pub words_read_back : Words-read-back
+pub words_read_back : WordsReadBack
 words_read_back [] all = refl
 words_read_back (w ∷ ws) all =
     ap filled (cut_after w (spaced ws) all.0.1) ∙ filled-some w _ all.0.0 ∙ ap (λ l. w ∷ l) (words_read_back ws all.1)

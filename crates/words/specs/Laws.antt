@@ -5,8 +5,8 @@ use Rattle.words.specs.Cutting.{is_blank, words_of}
 use Rattle.words.specs.Spelling.{role_code}
 
 -- A role's code, printed as a number, is read as that code.
-abbrev pub Codes-read-back : Type 0
-Codes-read-back = (code : ℕ) → code < 2 ^ 32 → role_code (decimal code) ≡ Some code
+abbrev pub CodesReadBack : Type 0
+CodesReadBack = (code : ℕ) → code < 2 ^ 32 → role_code (decimal code) ≡ Some code
 
 -- A word holds a byte, and no blank.
 abbrev pub Word : List ℕ → Type 0
@@ -18,13 +18,13 @@ spaced [] = []
 spaced (w ∷ ws) = w ++ (32 ∷ spaced ws)
 
 -- The words of any line are words.
-abbrev pub Lines-hold-words : Type 0
-Lines-hold-words = (line : List ℕ) → All Word (words_of line)
+abbrev pub LinesHoldWords : Type 0
+LinesHoldWords = (line : List ℕ) → All Word (words_of line)
 
 -- Words that are written as a line are the words of that line.
-abbrev pub Words-read-back : Type 0
-Words-read-back = (words : List (List ℕ)) → All Word words → words_of (spaced words) ≡ words
+abbrev pub WordsReadBack : Type 0
+WordsReadBack = (words : List (List ℕ)) → All Word words → words_of (spaced words) ≡ words
 
 -- All three.
-abbrev pub Reads-back : Type 0
-Reads-back = Codes-read-back × Lines-hold-words × Words-read-back
+abbrev pub ReadsBack : Type 0
+ReadsBack = CodesReadBack × LinesHoldWords × WordsReadBack
