@@ -5,12 +5,12 @@ use Rattle.words.specs.Saying.{held, hex_at}
 use Rattle.words.proofs.Places.{read_at, missing_at, held-or}
 use Rattle.words.proofs.argument.hex_at.Goals as goal
 
-pub returns-in_ok-hex_bytes : goal.returns-in_ok-hex_bytes
+pub returns-in_ok-hex_bytes-in-Some : goal.returns-in_ok-hex_bytes-in-Some
 unfolding hex_at
-returns-in_ok-hex_bytes c =
+returns-in_ok-hex_bytes-in-Some c =
     let at = c.in-Some.ensures.lookup in
     record {
-      answer = read_at hex_bytes NotHexadecimal c.args.words.now c.args.place c.in-Some.word.now _ _ at.3.0 at.1 c.in_ok-hex_bytes.ensures.answer
+      answer = read_at hex_bytes NotHexadecimal c.args.words.now c.args.place c.in-Some.word.now _ _ at.3.0 at.1 c.in_ok-hex_bytes-in-Some.ensures.answer
           (ap held c.ok_or.ensures.value ∙ held-or _ _);
     }
 
