@@ -5,8 +5,8 @@ use Rattle.answer.proofs.listed.push_fields.Goals as goal
 
 pub loop-field-preserved : goal.loop-field-preserved
 loop-field-preserved c =
-    let pushed = chosen _ _ _ _ c.push-str.ensures.bytes (ap is_ok c.in-ok-push-str.was) in
-    one_more _ _ c.args.fields.now _ c.loop-field.invariant _ _ c.loop-field-test.true pushed (c.as-str.ensures.value ∙ c.in-ok-piece.ensures.ok)
+    let pushed = chosen _ _ _ _ c.push_str.ensures.bytes (ap is_ok c.in_ok-push_str.was) in
+    one_more _ _ c.args.fields.now _ c.loop-field.invariant _ _ c.loop-field-test.true pushed (c.as_str.ensures.value ∙ c.in_ok-piece.ensures.ok)
 
 pub returns : goal.returns
 returns c = record { answer = all_written _ _ c.args.fields.now _ c.loop-field.invariant c.loop-field-test.false }

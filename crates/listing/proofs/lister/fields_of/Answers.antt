@@ -6,8 +6,8 @@ use Rattle.listing.proofs.lister.fields_of.Goals as goal
 
 pub loop-width-preserved : goal.loop-width-preserved
 loop-width-preserved c =
-    one_more _ _ _ c.widths-widths.result.now c.loop-width.width-index c.loop-width.at c.stretch-bytes.result.now _ c.field-at-value.result
-    c.loop-width-test.true c.field-at-value.ensures.answer c.in-ok-push.ensures.items c.loop-width.invariant
+    one_more _ _ _ c.widths-widths.result.now c.loop-width.width-index c.loop-width.at c.stretch-bytes.result.now _ c.field_at-value.result
+    c.loop-width-test.true c.field_at-value.ensures.answer c.in_ok-push.ensures.items c.loop-width.invariant
 
 pub returns : goal.returns
 returns c =
