@@ -2,7 +2,6 @@
 use Rattle.std.specs.Prelude.{ℕ, List, ◌++◌, codes, decimal}
 use Rattle.answer.specs.declared.answer.Answer.{Answer}
 use Rattle.answer.specs.declared.answer.Answer.TheVariants as answer
-use Rattle.words.specs.declared.line.Unclear.{Unclear}
 use Rattle.words.specs.declared.line.Why.{Why}
 use Rattle.words.specs.declared.line.Why.TheVariants.{NotACommand, NotAnOrder, NotARoleCode, NotARoleSet, NeitherHexNorFile, NotHexadecimal, CannotBeRead, Missing, TooMany}
 

@@ -1,5 +1,5 @@
 -- The order with no pairs.
-use Rattle.std.proofs.Common.{◌≡◌, ℕ, ◌^◌, ◌<◌, Bool, true, false, ◌&&◌, ◌||◌, eqb, ltb, List, [], get_or, sym, refl, ap, ◌∙◌, subst, inl, inr, ⊎_elim, arith}
+use Rattle.std.proofs.Common.{◌≡◌, ℕ, ◌^◌, ◌<◌, Bool, true, ◌&&◌, ◌||◌, eqb, ltb, List, get_or, sym, ap, ◌∙◌, subst, inl, inr, ⊎_elim, arith}
 use lib.Bits.{bit_or}
 use Rattle.std.proofs.lemmas.Bool.{cases_lt, and_parts, or_cases, and_left, and_right, le-ltb, lt-ltb, ltb-true, eqb-true}
 use Rattle.std.proofs.lemmas.Bool.Decides.{nat_tests}
@@ -7,7 +7,6 @@ use Rattle.order.specs.Laws.{Transitive}
 use Rattle.order.specs.RoleSets.{has}
 use Rattle.order.proofs.Bits.{has-or, has_one}
 use Rattle.drawn.specs.Rows.{rows_below}
-use Rattle.drawn.specs.Draws.{Keeps}
 use Rattle.drawn.specs.Pairs.{only_top}
 use Rattle.drawn.specs.Bounds.{rows_has, rows_out}
 use Rattle.drawn.proofs.Joins.{Contained, trans_as}

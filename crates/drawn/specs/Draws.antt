@@ -1,6 +1,6 @@
 -- What a draw gives for its pairs: the least relation that has them and keeps the laws. Roles are the codes 0 to 31, and
 -- the top role is 0.
-use Rattle.std.specs.Prelude.{◌≡◌, ℕ, ◌<◌, Bool, true, List, [], length, get_or, slice_index_or}
+use Rattle.std.specs.Prelude.{◌≡◌, ℕ, ◌<◌, Bool, true, List, length, get_or, slice_index_or}
 use Rattle.order.specs.Laws.{Lawful, Transitive}
 
 -- the relation has a at or below b for each pair (a, b)

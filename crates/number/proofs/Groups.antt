@@ -1,13 +1,12 @@
 -- A number read group by group from the front: what is still to come stands at a scale, over a value.
-use Rattle.std.proofs.Common.{◌≡◌, ℕ, zero, suc, ◌+◌, ◌-◌, ◌*◌, ◌/◌, ◌%◌, ◌^◌, ◌<◌, ◌≤◌, Bool, true, false, cond, eqb, ltb, ◌⊎◌, List, [], ◌∷◌, length, get_or, drop, Ok, Err, Result, sym, refl, ap, ◌∙◌, subst, inl, inr, ⊎_elim, mul_assoc, mul_comm, add_comm, mul-le-mul_left, mul-add, arith, pow_mono, pow-add}
+use Rattle.std.proofs.Common.{◌≡◌, ℕ, ◌+◌, ◌-◌, ◌*◌, ◌/◌, ◌%◌, ◌^◌, ◌<◌, ◌≤◌, cond, eqb, List, [], ◌∷◌, Ok, Err, Result, sym, refl, ap, ◌∙◌, ⊎_elim, mul_assoc, mul_comm, mul-le-mul_left, mul-add, arith, pow_mono, pow-add}
 use native.Mathlib.Nat.{mul-add-div, div-div-eq-div-mul}
-use Rattle.std.proofs.lemmas.Nat.{div-add-mod', le-div}
-use Rattle.std.proofs.lemmas.List.{at_drop_more, at_drop_all}
+use Rattle.std.proofs.lemmas.Nat.{div-add-mod'}
 use Rattle.std.proofs.lemmas.Bool.{lt-ltb, le-ltb, eq-eqb, ne_eqb, cond-true, cond-false, cases_lt, cases_eq}
 use Rattle.number.specs.declared.fault.Cause.TheVariants.{Ends, TooLarge}
 use Rattle.number.specs.declared.fault.ReadFault.{ReadFault}
 use Rattle.number.specs.declared.reading.Number.{Number}
-use Rattle.number.specs.Spelling.{found, fault_at, behind, grouped, number, from, read_number}
+use Rattle.number.specs.Spelling.{found, fault_at, behind, grouped, number, from}
 
 -- ---- one byte
 

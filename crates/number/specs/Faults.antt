@@ -1,5 +1,5 @@
 -- What a reader's fault tells: its number, and the byte that settles it.
-use Rattle.std.specs.Prelude.{ℕ, List, [], ◌∷◌}
+use Rattle.std.specs.Prelude.{ℕ, [], ◌∷◌}
 use Rattle.order.specs.Refusals.{Refusal}
 use Rattle.number.specs.declared.fault.Cause.{Cause}
 use Rattle.number.specs.declared.fault.Cause.TheVariants.{Ends, TooLarge, UnknownKind}

@@ -1,6 +1,6 @@
 -- One number, one spelling.
 use Rattle.std.specs.Prelude.{◌≡◌, ℕ, ◌+◌, ◌/◌, ◌%◌, ◌<◌, ◌≤◌, List, [], ◌∷◌, ◌++◌, length, take, drop, slice_index}
-use Rattle.number.specs.Spelling.{number, read_number, found, encode}
+use Rattle.number.specs.Spelling.{read_number, found, encode}
 
 pub record OneSpelling : Type 0 where
   -- what the bytes of a number are

@@ -2,7 +2,7 @@
 -- fewest bytes. A text is a list of bytes.
 use Rattle.std.specs.Prelude.{ℕ, zero, suc, ◌+◌, ◌-◌, ◌*◌, ◌/◌, ◌%◌, ◌^◌, cond, List, [], ◌∷◌, drop, Ok, Err, Result, ◌==◌, nat_lt}
 use Rattle.number.specs.declared.fault.Cause.{Cause}
-use Rattle.number.specs.declared.fault.Cause.TheVariants.{Ends, TooLarge, UnknownKind}
+use Rattle.number.specs.declared.fault.Cause.TheVariants.{Ends, TooLarge}
 use Rattle.number.specs.declared.fault.ReadFault.{ReadFault}
 use Rattle.number.specs.declared.reading.Number.{Number}
 use Rattle.number.specs.declared.reading.Width.{Width}

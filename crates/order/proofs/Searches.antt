@@ -1,6 +1,6 @@
 -- A search through the roles of a set: those taken out so far have the property, the others are still there.
-use Rattle.std.proofs.Common.{◌≡◌, ℕ, Bool, true, false, not, ◌&&◌, eqb, sym, refl, ◌∙◌, subst, ⊎_elim}
-use Rattle.std.proofs.lemmas.Bool.{and_parts, and_from, and_cases, both_ways, cases_Bool, eqb-true, not-false, not_from_false}
+use Rattle.std.proofs.Common.{◌≡◌, ℕ, false, not, eqb, sym, ◌∙◌, subst, ⊎_elim}
+use Rattle.std.proofs.lemmas.Bool.{and_parts, and_cases, both_ways, eqb-true, not-false}
 use Rattle.order.specs.RoleSets.{has, In, Part, Lowest}
 use Rattle.order.proofs.Bits.{has-none}
 

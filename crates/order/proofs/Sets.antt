@@ -1,5 +1,5 @@
 -- The laws of ≤ between sets, for every lawful order.
-use Rattle.std.proofs.Common.{◌≡◌, ℕ, ◌^◌, ◌<◌, Bool, true, ◌||◌, eqb, sym, refl, ◌∙◌, subst, ⊎_elim}
+use Rattle.std.proofs.Common.{◌≡◌, ℕ, ◌^◌, ◌<◌, Bool, sym, refl, ◌∙◌, subst, ⊎_elim}
 use lib.Bits.{bit_or}
 use Rattle.std.proofs.lemmas.Bool.{eqb-true, eq-eqb, or_cases, or_left, or_right}
 use Rattle.order.specs.Laws.{Lawful}

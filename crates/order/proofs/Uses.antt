@@ -1,9 +1,9 @@
 -- Whether a set that is not empty is made of the first `count` roles: by a shift.
-use Rattle.std.proofs.Common.{◌≡◌, ℕ, ◌+◌, ◌*◌, ◌/◌, ◌%◌, ◌^◌, ◌<◌, ◌≤◌, Bool, not, eqb, leb, Decides, sym, ap, ◌∙◌, mod-lt, div-add-mod', zero-mul, arith, pow_pos}
+use Rattle.std.proofs.Common.{◌≡◌, ℕ, ◌+◌, ◌*◌, ◌/◌, ◌%◌, ◌^◌, ◌<◌, ◌≤◌, Bool, not, eqb, leb, Decides, ap, ◌∙◌, mod-lt, div-add-mod', zero-mul, arith, pow_pos}
 use native.Mathlib.Nat.{div-eq_of_lt}
 use Rattle.std.proofs.lemmas.Bool.Decides.{Decides-like, Decides-eqb, same_from_decides}
 use Rattle.std.proofs.lemmas.Bool.{le-leb}
-use Rattle.order.specs.RoleSets.{In, InUse, in_use_of}
+use Rattle.order.specs.RoleSets.{InUse, in_use_of}
 use Rattle.order.proofs.Bits.{has-below, small_from_roles}
 use Rattle.order.proofs.Tests.{Decides-in_use_of, Decides-not_zero}
 

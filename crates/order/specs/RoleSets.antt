@@ -1,6 +1,6 @@
 -- Role sets: numbers whose bit r stands for role r. First in words, then as tests that compute; proofs/ shows that
 -- each test decides its sentence for any two numbers of 64 bits.
-use Rattle.std.specs.Prelude.{◌≡◌, ℕ, zero, suc, ◌+◌, ◌/◌, ◌%◌, ◌^◌, ◌<◌, ◌≤◌, Bool, true, false, cond, not, ◌&&◌, ◌||◌, Some, None, Option, ◌==◌, ◌≢◌, bit_or, nat_lt}
+use Rattle.std.specs.Prelude.{◌≡◌, ℕ, zero, suc, ◌/◌, ◌%◌, ◌^◌, ◌<◌, ◌≤◌, Bool, true, false, cond, not, ◌&&◌, ◌||◌, Some, None, Option, ◌==◌, ◌≢◌, bit_or, nat_lt}
 
 -- the role is in the set
 unfoldable pub has : ℕ → ℕ → Bool

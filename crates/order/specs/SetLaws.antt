@@ -1,5 +1,5 @@
 -- What the layers above may use of role sets, for every lawful order of roles.
-use Rattle.std.specs.Prelude.{◌≡◌, ℕ, ◌^◌, ◌<◌, Bool, true, ◌&&◌, ◌||◌, Decides, ◌==◌, bit_or}
+use Rattle.std.specs.Prelude.{◌≡◌, ℕ, ◌^◌, ◌<◌, Bool, ◌&&◌, ◌||◌, Decides, ◌==◌, bit_or}
 use Rattle.order.specs.Laws.{Lawful}
 use Rattle.order.specs.RoleSets.{has, In, Part, SomeBelow, SetBelow, Opens, InUse, some_below, set_below, opens_to, in_use, with_role, kept}
 

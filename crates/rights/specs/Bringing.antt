@@ -1,5 +1,5 @@
 -- The rights order. A role is a set of six rights, right i being bit i of its code, and each right brings others.
-use Rattle.std.specs.Prelude.{◌≡◌, ℕ, zero, suc, ◌<◌, Bool, true, cond, ◌&&◌, List, [], ◌∷◌, Decides, ◌==◌, bit_and, bit_or, nat_lt, slice_index}
+use Rattle.std.specs.Prelude.{ℕ, zero, suc, ◌<◌, Bool, cond, ◌&&◌, List, [], ◌∷◌, Decides, ◌==◌, bit_and, bit_or, nat_lt, slice_index}
 use Rattle.order.specs.RoleSets.{has, In}
 
 -- row i is the set of rights that right i brings

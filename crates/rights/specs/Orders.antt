@@ -1,12 +1,12 @@
 -- The rights order keeps the laws, and its test says what the words say.
-use Rattle.std.specs.Prelude.{◌≡◌, ℕ, ◌<◌, Bool, true, ◌&&◌, Decides, ◌==◌, bit_and, nat_lt, refl}
+use Rattle.std.specs.Prelude.{◌≡◌, ℕ, ◌<◌, true, ◌&&◌, ◌==◌, bit_and, nat_lt, refl}
 use Rattle.std.proofs.Common.{ap, ◌∙◌, mod-eq_of_lt, lit<, lit≤}
 use Rattle.std.specs.Int.Bits.{and_self}
 use Rattle.std.proofs.lemmas.Nat.{and_mask}
 use Rattle.std.proofs.lemmas.Bool.{and_parts, and_from, ltb-true, lt-ltb, eqb-true, eq-eqb}
 use Rattle.order.specs.Laws.{Lawful}
 use Rattle.order.specs.RoleSets.{has}
-use Rattle.rights.specs.Bringing.{AtOrBelow, brought_to, brought, rights_below, TestSaysAmong}
+use Rattle.rights.specs.Bringing.{brought_to, brought, rights_below, TestSaysAmong}
 use Rattle.rights.specs.Parts.{brought-small, brought-brings, brings_brought, and_part, part_and}
 
 parts : (a b : ℕ) → rights_below a b ≡ true → (a < 64) × (b < 64) × (bit_and (brought a) (brought b) ≡ brought a)

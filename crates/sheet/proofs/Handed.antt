@@ -1,11 +1,11 @@
 -- What the reader answers, from the line that was found.
-use Rattle.std.proofs.Common.{◌≡◌, ℕ, ◌-◌, ◌<◌, ◌≤◌, List, take, IfSome, Some, None, Ok, Err, Option, Result, sym, refl, ap, ◌∙◌, subst, arith}
+use Rattle.std.proofs.Common.{◌≡◌, ℕ, ◌-◌, ◌<◌, ◌≤◌, List, take, IfSome, Some, Err, Option, Result, sym, refl, ap, ◌∙◌, subst, arith}
 use Rattle.number.specs.declared.fault.ReadFault.{ReadFault}
 use Rattle.sheet.specs.declared.finding.Found.{Found}
 use Rattle.sheet.specs.declared.frame.Frame.{Frame}
 use Rattle.sheet.specs.declared.line.PlacedLine.{PlacedLine}
 use Rattle.sheet.specs.Fields.{read_line}
-use Rattle.sheet.specs.Showing.{seen, shown, line_at, place_after, frame_after, Moves}
+use Rattle.sheet.specs.Showing.{shown, line_at, place_after, frame_after, Moves}
 
 -- the part of the sheet up to the end
 pub as_far : (frame : Frame) (place : ℕ) (sheet : List ℕ) (r : Result (Option Found) ReadFault)

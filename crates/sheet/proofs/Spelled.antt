@@ -1,19 +1,17 @@
 -- A line is spelled in one way: its kind, then each of its fields.
-use Rattle.std.proofs.Common.{◌≡◌, ℕ, zero, suc, ◌+◌, ◌-◌, ◌<◌, ◌≤◌, ◌⊎◌, List, [], ◌∷◌, ◌++◌, length, get_or, take, drop, Some, None, Ok, Err, Result, sym, refl, ap, ◌∙◌, subst, inl, inr, arith}
+use Rattle.std.proofs.Common.{◌≡◌, ℕ, ◌+◌, ◌-◌, ◌<◌, ◌≤◌, List, [], ◌∷◌, ◌++◌, length, take, drop, Some, Ok, sym, refl, ap, ◌∙◌, subst, inl, inr, arith}
 use native.Mathlib.Nat.{min-le_right}
 use Rattle.std.proofs.lemmas.Bool.{cases_lt}
 use Rattle.std.proofs.lemmas.List.{length-take, length-drop, append_assoc, append-nil, length-append, take-append-drop, take-take, drop-take, drop-drop}
-use Rattle.number.specs.declared.fault.ReadFault.{ReadFault}
-use Rattle.number.specs.declared.reading.Number.{Number}
 use Rattle.number.specs.declared.reading.Width.{Width}
 use Rattle.number.specs.declared.reading.Width.TheVariants.{Narrow}
 use Rattle.number.specs.Spelling.{read_number, limit_of, encode, found}
 use Rattle.number.proofs.Encodings.{one_spelling}
 use Rattle.sheet.specs.declared.finding.Found.{Found}
-use Rattle.sheet.specs.Fields.{then_ok, fields_end, read_line, stretch, text, or_zero, field_at, values, Decodes, Fit, encode_all}
+use Rattle.sheet.specs.Fields.{then_ok, fields_end, read_line, stretch, or_zero, field_at, values, Fit, encode_all}
 use Rattle.sheet.specs.Kinds.{code_of, widths}
 use Rattle.sheet.specs.Laws.{Bytes, LineSpelled}
-use Rattle.sheet.proofs.Inversions.{ok_first, Parts, parts, kind_code}
+use Rattle.sheet.proofs.Inversions.{ok_first, parts, kind_code}
 
 pub take_two : (a b : ℕ) (l : List ℕ) → take (a + b) l ≡ take a l ++ take b (drop a l)
 take_two a b l = sym (take-append-drop a (take (a + b) l)) ∙ (λ i. take-take a (a + b) l (omega arith) i ++ drop-take a b l i)

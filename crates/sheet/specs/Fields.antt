@@ -1,5 +1,5 @@
 -- How a line stands in a sheet: its kind, then its fields, all numbers. A sheet is a list of bytes.
-use Rattle.std.specs.Prelude.{◌≡◌, ℕ, ◌+◌, ◌-◌, ◌≤◌, cond, List, [], ◌∷◌, ◌++◌, length, take, drop, Some, None, Ok, Err, Option, Result, ◌==◌}
+use Rattle.std.specs.Prelude.{◌≡◌, ℕ, ◌-◌, ◌≤◌, cond, List, [], ◌∷◌, ◌++◌, length, take, drop, Some, None, Ok, Err, Option, Result, ◌==◌}
 use Rattle.number.specs.declared.fault.Cause.TheVariants.{UnknownKind}
 use Rattle.number.specs.declared.fault.ReadFault.{ReadFault}
 use Rattle.number.specs.declared.reading.Number.{Number}

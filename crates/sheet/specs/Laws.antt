@@ -1,5 +1,5 @@
 -- What holds of every sheet: what a line is made of, that reading ends, and that nothing is lost.
-use Rattle.std.specs.Prelude.{◌≡◌, ℕ, ◌-◌, ◌<◌, ◌≤◌, ◌⊎◌, List, [], ◌∷◌, ◌++◌, length, Some, None, Ok, Err, Option, Result, slice_index, slice_range}
+use Rattle.std.specs.Prelude.{◌≡◌, ℕ, ◌<◌, ◌≤◌, ◌⊎◌, List, [], ◌∷◌, ◌++◌, length, Some, Ok, Err, slice_index, slice_range}
 use Rattle.number.specs.declared.fault.ReadFault.{ReadFault}
 use Rattle.number.specs.Spelling.{encode}
 use Rattle.sheet.specs.declared.finding.Found.{Found}

@@ -1,11 +1,10 @@
 -- Pairs that are read code by code: the first code of a pair waits for the second.
-use Rattle.std.proofs.Common.{◌≡◌, ℕ, ◌+◌, ◌<◌, ◌≤◌, List, [], ◌∷◌, ◌++◌, length, get_or, drop, Some, None, Ok, Err, Option, Result, sym, refl, ap, ◌∙◌, append_assoc, append-nil, add_assoc, arith}
-use Rattle.std.specs.List.{slice_get}
+use Rattle.std.proofs.Common.{◌≡◌, ℕ, ◌+◌, ◌<◌, ◌≤◌, List, [], ◌∷◌, ◌++◌, length, get_or, drop, Some, None, Ok, Err, Option, Result, sym, refl, ap, ◌∙◌, append_assoc, append-nil, add_assoc}
 use Rattle.std.proofs.lemmas.List.{drop_more, drop_all}
 use Rattle.std.proofs.lemmas.Option.{slice_get-get_or}
 use Rattle.words.specs.declared.line.Unclear.{Unclear}
 use Rattle.words.specs.declared.line.Why.TheVariants.{NotARoleCode, Missing}
-use Rattle.words.specs.Saying.{Asked, Said, fault, then_ok, wanted, code_at, pairs_from, draw_asked, said_is, asks, unclear, draw}
+use Rattle.words.specs.Saying.{fault, then_ok, wanted, code_at, pairs_from, draw_asked, said_is, asks, unclear, draw}
 use Rattle.words.specs.Spelling.{role_code}
 
 abbrev Pairs : Type 0

@@ -1,6 +1,6 @@
 -- How a text of bytes is cut: a line into words, and a set's text into the numbers in it.
 -- A text is a list of byte codes, and any bytes may stand in it.
-use Rattle.std.specs.Prelude.{ℕ, Bool, true, false, cond, ◌||◌, List, [], ◌∷◌, map, ◌==◌}
+use Rattle.std.specs.Prelude.{ℕ, Bool, cond, ◌||◌, List, [], ◌∷◌, map, ◌==◌}
 use Rattle.std.specs.Borrow.{Bor}
 
 -- A blank is a space, a tab or a carriage return.

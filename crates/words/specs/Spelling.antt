@@ -1,5 +1,5 @@
 -- What a word spells: a number, a role's code, a set of roles. A word that spells none of its kind gives nothing.
-use Rattle.std.specs.Prelude.{ℕ, ◌+◌, ◌-◌, ◌*◌, ◌^◌, Bool, true, false, cond, ◌&&◌, List, [], ◌∷◌, length, Some, None, Option, ◌==◌, bit_or, nat_le, slice_index}
+use Rattle.std.specs.Prelude.{ℕ, ◌+◌, ◌-◌, ◌*◌, ◌^◌, Bool, cond, ◌&&◌, List, [], ◌∷◌, length, Some, None, Option, ◌==◌, bit_or, nat_le, slice_index}
 use Rattle.std.specs.List.{between}
 use Rattle.std.specs.Str.{all_ascii_digits}
 use Rattle.words.specs.Cutting.{stretches, is_comma}

@@ -1,4 +1,4 @@
-use Rattle.std.proofs.Common.{sym, ap, ◌∙◌}
+use Rattle.std.proofs.Common.{ap, ◌∙◌}
 use Rattle.sheet.specs.Fields.{values}
 use Rattle.sheet.specs.Kinds.{widths}
 use Rattle.listing.proofs.Steps.{one_more, all_done}

@@ -1,4 +1,4 @@
-use Rattle.std.proofs.Common.{◌≡◌, ◌^◌, ◌<◌, arith}
+use Rattle.std.proofs.Common.{arith}
 use Rattle.order.proofs.Uses.{uses_none, uses_all, uses_shift}
 use Rattle.order.proofs.role_sets.in_use_of.Goals as goal
 

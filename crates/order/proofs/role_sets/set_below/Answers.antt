@@ -1,4 +1,4 @@
-use Rattle.std.proofs.Common.{ap, ◌∙◌, arith}
+use Rattle.std.proofs.Common.{arith}
 use Rattle.std.proofs.lemmas.Bool.Decides.{same_from_decides, not_from_Decides}
 use Rattle.order.specs.RoleSets.{SetBelow}
 use Rattle.order.proofs.Searches.{searched_more, searched_all}

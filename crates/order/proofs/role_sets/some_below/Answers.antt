@@ -1,7 +1,7 @@
-use Rattle.std.proofs.Common.{Decides, sym, ap, ◌∙◌, arith}
+use Rattle.std.proofs.Common.{sym, arith}
 use Rattle.std.proofs.lemmas.Bool.{both_ways}
 use Rattle.std.proofs.lemmas.Bool.Decides.{same_from_decides}
-use Rattle.order.specs.RoleSets.{SomeBelow, some_below}
+use Rattle.order.specs.RoleSets.{SomeBelow}
 use Rattle.order.proofs.Searches.{searched_all}
 use Rattle.order.proofs.Tests.{Decides-yes, Decides-no, Decides-some_below}
 use Rattle.order.proofs.role_sets.some_below.Goals as goal

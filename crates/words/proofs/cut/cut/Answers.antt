@@ -1,4 +1,4 @@
-use Rattle.std.proofs.Common.{◌≡◌, is_ok, vec_items, sym, refl, ap, ◌∙◌}
+use Rattle.std.proofs.Common.{is_ok, vec_items, sym, ap, ◌∙◌}
 use Rattle.std.proofs.ResultArms.{chosen}
 use Rattle.std.proofs.lemmas.List.{map_push}
 use Rattle.words.specs.Cutting.{texts}

@@ -1,4 +1,4 @@
-use Rattle.std.proofs.Common.{arith, true-eqb}
+use Rattle.std.proofs.Common.{true-eqb}
 use Rattle.words.proofs.Says.{no_note}
 use Rattle.words.proofs.read.is_note.Goals as goal
 

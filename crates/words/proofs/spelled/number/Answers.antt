@@ -1,4 +1,4 @@
-use Rattle.std.proofs.Common.{◌≡◌, ℕ, ◌+◌, ◌*◌, ◌<◌, length, drop, sym, ap, ◌∙◌, arith, true-eqb, false-eqb}
+use Rattle.std.proofs.Common.{◌+◌, ◌*◌, drop, sym, ap, ◌∙◌, arith, true-eqb, false-eqb}
 use Rattle.words.proofs.Numbers.{scan, scanned, no_digit, no_digits, over, onward, ended}
 use Rattle.words.proofs.spelled.number.Goals as goal
 
