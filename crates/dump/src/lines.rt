@@ -24,7 +24,7 @@ fn row_line<R: Fields>(
     row: usize,
     found: Option<R>,
 ) -> Result<Option<String>, AllocError>
-    ensures answer { IfOk result (λ o. option_map string_bytes o ≡ option_map (row_line listed table row) found) }
+    ensures answer { IfOk result (λ o. option_map string_bytes o ≡ option_map (row_line R.listed table row) found) }
 {
     let Some(fields) = found else {
         return Ok(None);
@@ -40,7 +40,7 @@ fn table_line<R: Fields, const N: usize>(
     row: usize,
     rows: &Table<R, N>,
 ) -> Result<Option<String>, AllocError>
-    ensures answer { IfOk result (λ o. option_map string_bytes o ≡ option_map (row_line listed table row) (slice_get (in_use rows.now) row)) }
+    ensures answer { IfOk result (λ o. option_map string_bytes o ≡ option_map (row_line R.listed table row) (slice_get (in_use rows.now) row)) }
 {
     row_line(heap, table, row, row_at(rows.count, &rows.rows, row))
 }

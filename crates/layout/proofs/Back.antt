@@ -1,9 +1,9 @@
 -- What is stored of a network is that network.
-use Rattle.std.proofs.Common.{◌≡◌, ℕ, ◌-◌, List, [], ◌∷◌, ◌++◌, map, length, take, drop, replicate, sym, refl, ap, ◌∙◌, subst}
-use Rattle.std.proofs.lemmas.List.{take_at, drop_at, append_assoc, length-map}
+use Rattle.std.proofs.Common.{◌≡◌, ℕ, ◌-◌, List, [], ◌∷◌, ◌++◌, map, length, take, drop, replicate, refl, ap, ◌∙◌}
+use Rattle.std.proofs.lemmas.List.{take_at, drop_at, append_assoc}
 use Rattle.layout.specs.declared.memory.Tables.{Tables}
 use Rattle.layout.specs.Held.{pad, in_use}
-use Rattle.layout.specs.Network.{Network, TreeLines, pieces, joined, tree_of, network, stored, Fits, Holds}
+use Rattle.layout.specs.Network.{Network, TreeLines, pieces, joined, tree_of, network, stored, Holds}
 use Rattle.layout.specs.Zeros.{policy0, grant0, location0, step0, line0, template0, pattern0, command0, job0, running0}
 use Rattle.layout.proofs.Pads.{take_pad}
 

@@ -1,5 +1,5 @@
 -- The edge above a line, the lowest rule that a line breaks, and the first line that breaks one.
-use Rattle.std.proofs.Common.{◌≡◌, ℕ, zero, suc, ◌+◌, ◌-◌, ◌<◌, ◌≤◌, Bool, true, false, cond, eqb, ◌⊎◌, List, [], ◌∷◌, length, get_or, Some, None, Option, sym, refl, ap, ◌∙◌, subst, inl, inr, add-one, arith}
+use Rattle.std.proofs.Common.{◌≡◌, ℕ, zero, suc, ◌+◌, ◌<◌, ◌≤◌, Bool, true, false, cond, eqb, List, length, Some, None, Option, refl, ap, ◌∙◌, subst, inl, inr, add-one, arith}
 use Rattle.std.proofs.lemmas.Bool.{cases_eq, cond-true, cond-false, eq-eqb, ne_eqb}
 use Rattle.order.specs.RoleSets.{set_below}
 use Rattle.rows.specs.declared.row.JobRow.{JobRow}
@@ -8,8 +8,8 @@ use Rattle.scan.specs.Scan.{or_else}
 use Rattle.obeying.specs.declared.trees.Rule.{Rule}
 use Rattle.obeying.specs.declared.trees.Rule.TheVariants as rule
 use Rattle.obeying.specs.declared.trees.Breach.{Breach}
-use Rattle.obeying.specs.Rules.{line, TreeObeys, Asks, number_of, LowestBroken, FirstBroken}
-use Rattle.obeying.specs.Breaches.{last_outer, edge_above, line_below, script_passes, line_breach, breach_at, first_breach, tree_breach}
+use Rattle.obeying.specs.Rules.{line, TreeObeys, Asks, number_of}
+use Rattle.obeying.specs.Breaches.{last_outer, edge_above, line_below, script_passes, line_breach, breach_at, first_breach}
 
 -- ---- the edge above
 

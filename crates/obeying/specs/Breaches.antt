@@ -1,5 +1,5 @@
 -- The first breach, as functions that compute.
-use Rattle.std.specs.Prelude.{ℕ, zero, suc, ◌+◌, Bool, true, false, cond, not, ◌&&◌, ◌||◌, List, length, Some, None, Option, ◌==◌, bit_or, nat_lt, slice_index_or}
+use Rattle.std.specs.Prelude.{ℕ, zero, suc, ◌+◌, Bool, true, cond, not, ◌&&◌, ◌||◌, List, length, Some, None, Option, ◌==◌, bit_or, nat_lt, slice_index_or}
 use Rattle.order.specs.RoleSets.{set_below}
 use Rattle.rows.specs.declared.row.GrantRow.{GrantRow}
 use Rattle.rows.specs.declared.row.TreeLine.{TreeLine}

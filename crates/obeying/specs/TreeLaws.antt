@@ -1,5 +1,5 @@
 -- What the layers above may use of trees that obey, for every order of roles.
-use Rattle.std.specs.Prelude.{◌≡◌, ℕ, ◌+◌, ◌-◌, ◌<◌, ◌≤◌, Bool, cond, List, [], ◌∷◌, length, drop, nat_lt}
+use Rattle.std.specs.Prelude.{◌≡◌, ℕ, ◌+◌, ◌-◌, ◌<◌, Bool, cond, List, [], ◌∷◌, length, drop, nat_lt}
 use Rattle.order.specs.Laws.{Lawful}
 use Rattle.order.specs.RoleSets.{SetBelow}
 use Rattle.rows.specs.declared.row.TreeLine.{TreeLine}

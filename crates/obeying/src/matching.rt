@@ -34,15 +34,15 @@ fn outermost_matches(top: RoleSet, line: TreeLine) -> bool
 }
 
 fn line_matches<O: Order>(order: &O, pattern: TreePattern, line: TreeLine) -> bool
-    ensures answer { result ≡ line_matches (below order.now) pattern.top pattern.all line }
-    ensures says { Decides result (LineMatches (below order.now) pattern.top pattern.all line) }
+    ensures answer { result ≡ line_matches (O.below order.now) pattern.top pattern.all line }
+    ensures says { Decides result (LineMatches (O.below order.now) pattern.top pattern.all line) }
 {
     outermost_matches(pattern.top, line) && set_below(order, line.set, pattern.all)
 }
 
 fn lines_match<O: Order>(order: &O, pattern: TreePattern, tree: &[TreeLine]) -> bool
-    ensures answer { result ≡ lines_match (below order.now) pattern.top pattern.all tree.now }
-    ensures says { Decides result (Each (LineMatches (below order.now) pattern.top pattern.all) line0 tree.now) }
+    ensures answer { result ≡ lines_match (O.below order.now) pattern.top pattern.all tree.now }
+    ensures says { Decides result (Each (LineMatches (O.below order.now) pattern.top pattern.all) line0 tree.now) }
 {
     for i in 0..tree.len() {
         if !line_matches(order, pattern, tree[i]) {
@@ -60,8 +60,8 @@ pub fn tree_matches<O: Order>(
     pattern: TreePattern,
     tree: &[TreeLine],
 ) -> bool
-    ensures answer { result ≡ tree_matches (below order.now) least jobs.now pattern.policy pattern.top pattern.all tree.now }
-    ensures says { Decides result (Matches (below order.now) least jobs.now pattern.policy pattern.top pattern.all tree.now) }
+    ensures answer { result ≡ tree_matches (O.below order.now) least jobs.now pattern.policy pattern.top pattern.all tree.now }
+    ensures says { Decides result (Matches (O.below order.now) least jobs.now pattern.policy pattern.top pattern.all tree.now) }
 {
     match tree_breach(order, least, pattern.policy, jobs, tree) {
         Some(_) => false,

@@ -54,8 +54,8 @@ fn edge_above(tree: &[TreeLine], row: usize) -> Option<usize>
 
 fn above_obeys<O: Order>(order: &O, tree: &[TreeLine], row: usize) -> bool
     requires { row < length tree.now }
-    ensures answer { result ≡ line_below (below order.now) tree.now (edge_above tree.now row) (line tree.now row).set }
-    ensures says { Decides result ((j : ℕ) → Above tree.now j row → SetBelow (below order.now) (line tree.now j).set (line tree.now row).set) }
+    ensures answer { result ≡ line_below (O.below order.now) tree.now (edge_above tree.now row) (line tree.now row).set }
+    ensures says { Decides result ((j : ℕ) → Above tree.now j row → SetBelow (O.below order.now) (line tree.now j).set (line tree.now row).set) }
 {
     match edge_above(tree, row) {
         Some(j) => set_below(order, tree[j].set, tree[row].set),
@@ -84,8 +84,8 @@ fn line_breach<O: Order>(
     row: usize,
 ) -> Option<Rule>
     requires { row < length tree.now }
-    ensures answer { result ≡ line_breach (below order.now) least jobs.now policy tree.now row }
-    ensures says { LowestBroken (Asks (below order.now) least jobs.now policy tree.now row) result }
+    ensures answer { result ≡ line_breach (O.below order.now) least jobs.now policy tree.now row }
+    ensures says { LowestBroken (Asks (O.below order.now) least jobs.now policy tree.now row) result }
 {
     if !set_below(order, least, tree[row].set) {
         return Some(Rule::Least);
@@ -108,10 +108,10 @@ pub fn tree_breach<O: Order>(
     jobs: &[JobRow],
     tree: &[TreeLine],
 ) -> Option<Breach>
-    ensures answer { result ≡ tree_breach (below order.now) least jobs.now policy tree.now }
-    ensures stands { result ≡ None → TreeObeys (below order.now) least jobs.now policy tree.now }
-    ensures told { TreeObeys (below order.now) least jobs.now policy tree.now → result ≡ None }
-    ensures first { IfSome result (FirstBroken (Asks (below order.now) least jobs.now policy tree.now) (length tree.now)) }
+    ensures answer { result ≡ tree_breach (O.below order.now) least jobs.now policy tree.now }
+    ensures stands { result ≡ None → TreeObeys (O.below order.now) least jobs.now policy tree.now }
+    ensures told { TreeObeys (O.below order.now) least jobs.now policy tree.now → result ≡ None }
+    ensures first { IfSome result (FirstBroken (Asks (O.below order.now) least jobs.now policy tree.now) (length tree.now)) }
 {
     for i in 0..tree.len() {
         if let Some(rule) = line_breach(order, least, policy, jobs, tree, i) {

@@ -15,8 +15,8 @@ pub(crate) fn poke_table<R: Cells, const N: usize>(
     field: u32,
     value: u64,
 ) -> Result<(), Wrong>
-    ensures answer { result ≡ told (table_with written table.old row field value) }
-    ensures after { table.new ≡ after table.old (table_with written table.old row field value) }
+    ensures answer { result ≡ told (table_with R.written table.old row field value) }
+    ensures after { table.new ≡ after table.old (table_with R.written table.old row field value) }
 {
     if row == COUNT {
         if field != 0 {

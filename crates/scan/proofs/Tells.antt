@@ -1,7 +1,7 @@
 -- What it says that nothing is told.
-use Rattle.std.proofs.Common.{◌≡◌, ℕ, zero, suc, ◌+◌, ◌<◌, ◌≤◌, Bool, true, false, cond, ltb, leb, ◌⊎◌, List, [], ◌∷◌, length, get_or, take, drop, Some, None, Decides, Option, sym, refl, ap, ◌∙◌, subst, inl, inr, arith}
+use Rattle.std.proofs.Common.{◌≡◌, ℕ, zero, suc, ◌<◌, ◌≤◌, Bool, true, false, cond, ltb, leb, ◌⊎◌, List, [], ◌∷◌, length, get_or, take, Some, None, Decides, Option, sym, refl, subst, inl, inr, arith}
 use Rattle.std.proofs.lemmas.Bool.{cases_lt, le-ltb, lt-ltb, leb-true, le-leb, cond-true, cond-false, false≢true}
-use Rattle.scan.specs.Scan.{or_else, scan, first_bad, carried, clear, Each}
+use Rattle.scan.specs.Scan.{or_else, first_bad, carried, clear, Each}
 use Rattle.scan.proofs.Scan.{bad_each, each_bad}
 
 -- nothing is told exactly when P holds

@@ -32,7 +32,7 @@ fn first_behind<Names, T: Judged<Names>>(
 ) -> Option<usize>
 where
     T::Before: Drop,
-    ensures answer { result ≡ scan (λ b i x. passes names.now b i x) after before 0 rows.now }
+    ensures answer { result ≡ scan (λ b i x. T.passes names.now b i x) T.after before 0 rows.now }
     ensures inside { IfSome result (λ i. i < length rows.now) }
 {
     for (i, row) in rows.iter().enumerate() {
@@ -48,7 +48,7 @@ where
 pub fn first_fault<Names, T: Judged<Names>>(names: &Names, rows: &[T]) -> Option<usize>
 where
     T::Before: Drop,
-    ensures answer { result ≡ scan (λ b i x. passes names.now b i x) after first 0 rows.now }
+    ensures answer { result ≡ scan (λ b i x. T.passes names.now b i x) T.after T.first 0 rows.now }
     ensures inside { IfSome result (λ i. i < length rows.now) }
 {
     first_behind(names, rows, T::before_all())

@@ -1,11 +1,11 @@
 -- Nothing is told of the trees exactly when each stands.
-use Rattle.std.proofs.Common.{◌≡◌, ℕ, zero, suc, ◌+◌, ◌<◌, ◌≤◌, Bool, true, false, cond, eqb, ltb, leb, ◌⊎◌, List, [], ◌∷◌, length, get_or, take, drop, Some, None, Option, sym, refl, ap, ◌∙◌, subst, inl, inr, arith}
+use Rattle.std.proofs.Common.{◌≡◌, ℕ, ◌+◌, ◌<◌, ◌≤◌, cond, eqb, ltb, leb, List, [], length, get_or, take, drop, Some, None, Option, sym, refl, subst, inl, inr, arith}
 use Rattle.std.proofs.lemmas.Bool.{cases_eq, cases_lt, cond-true, cond-false, eq-eqb, ne_eqb, lt-ltb, le-ltb, le-leb}
 use Rattle.rows.specs.declared.row.TreeLine.{TreeLine}
 use Rattle.layout.specs.declared.held.Table.{Table}
 use Rattle.layout.specs.Held.{in_use}
 use Rattle.layout.specs.Zeros.{line0, no_tree}
-use Rattle.scan.specs.Scan.{or_else, first_of, first_bad, carried}
+use Rattle.scan.specs.Scan.{or_else, first_bad, carried}
 use Rattle.scan.proofs.Scan.{none_each, each_none}
 use Rattle.scan.proofs.Tells.{Tells, tells_some, tells_none, tells_like, or_tells, map_tells, few_tells, each_tells}
 use Rattle.zeros.specs.Zeroed.{line_zero}
@@ -15,7 +15,7 @@ use Rattle.standing.specs.Sizes.{within}
 use Rattle.standing.specs.Words.{TreeStands}
 use Rattle.standing.proofs.Trees.{tree-tells}
 use Rattle.shape.specs.Place.{shifted, bad_tree, base_after, tree_fault, trees_fault, past_fault, pasts_fault, edges_fault}
-use Rattle.shape.specs.Shape.{Zeros, TableStands, TreeAt}
+use Rattle.shape.specs.Shape.{Zeros, TreeAt}
 
 pub within-is : (count limit : ℕ) → count ≤ limit → within count limit ≡ count
 within-is count limit h = cond-true (leb count limit) count limit (le-leb count limit h)

@@ -1,5 +1,5 @@
 -- Tables with shape hold a network: its rows, zeros behind them, and nothing else.
-use Rattle.std.proofs.Common.{◌≡◌, ℕ, zero, suc, ◌+◌, ◌<◌, ◌≤◌, List, [], ◌∷◌, ◌++◌, map, length, get_or, take, drop, replicate, sym, refl, ap, ◌∙◌, subst, arith}
+use Rattle.std.proofs.Common.{◌≡◌, ℕ, zero, suc, ◌+◌, ◌<◌, ◌≤◌, List, [], ◌∷◌, ◌++◌, map, length, get_or, take, drop, replicate, sym, refl, ap, ◌∙◌, arith}
 use Rattle.std.proofs.lemmas.List.{length-take-le, length-take, length-drop, length-map, get_or-drop}
 use Rattle.rows.specs.declared.row.TreeLine.{TreeLine}
 use Rattle.layout.specs.declared.held.Table.{Table}
@@ -12,7 +12,7 @@ use Rattle.layout.proofs.Pads.{all_same, padded, counted, is_held}
 use Rattle.standing.specs.declared.sizes.Sizes.{Sizes}
 use Rattle.standing.specs.Words.{RunningClear}
 use Rattle.shape.specs.declared.place.Stage.{Stage}
-use Rattle.shape.specs.Shape.{Zeros, TableStands, TreeAt, total, ShapedBy}
+use Rattle.shape.specs.Shape.{Zeros, TableStands, total, ShapedBy}
 
 -- ---- running rows
 clear-is : (r : RunningRow) → RunningClear r → length r.slots ≡ 6 → r ≡ running0

@@ -1,5 +1,5 @@
 -- Nothing is told of the shelf exactly when its trees stand.
-use Rattle.std.proofs.Common.{◌≡◌, ℕ, zero, suc, ◌+◌, ◌-◌, ◌<◌, ◌≤◌, Bool, true, false, cond, ◌&&◌, eqb, ltb, leb, List, [], ◌∷◌, length, get_or, take, drop, Some, None, Decides, Option, sym, refl, ap, ◌∙◌, subst, arith}
+use Rattle.std.proofs.Common.{◌≡◌, ℕ, zero, suc, ◌+◌, ◌-◌, ◌<◌, ◌≤◌, ◌&&◌, eqb, leb, List, [], ◌∷◌, length, get_or, take, drop, None, Decides, Option, sym, refl, ap, ◌∙◌, subst, arith}
 use Rattle.std.proofs.lemmas.Bool.Decides.{Decides-eqb, Decides-and}
 use Rattle.std.proofs.lemmas.Bool.{cond-true, le-leb, and_from}
 use Rattle.std.proofs.lemmas.List.{take_all}
@@ -7,7 +7,7 @@ use Rattle.rows.specs.declared.row.TreeLine.{TreeLine}
 use Rattle.layout.specs.declared.memory.Shelf.{Shelf}
 use Rattle.layout.specs.Held.{in_use}
 use Rattle.layout.specs.Zeros.{line0}
-use Rattle.scan.specs.Scan.{or_else, scan, first_bad, carried, clear, Each}
+use Rattle.scan.specs.Scan.{or_else, scan, first_bad, carried, clear}
 use Rattle.scan.proofs.Scan.{scan-each, each_scan}
 use Rattle.scan.proofs.Tells.{Tells, tells_like, or_tells, map_tells, few_tells, each_tells, Decides-clear, Decides-leb, carried_step}
 use Rattle.zeros.specs.Zeroed.{line_zero}

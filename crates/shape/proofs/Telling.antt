@@ -1,5 +1,5 @@
 -- Nothing is told exactly when the tables have shape.
-use Rattle.std.proofs.Common.{◌≡◌, ℕ, ◌+◌, ◌<◌, ◌≤◌, Bool, cond, ◌&&◌, eqb, ltb, List, length, get_or, drop, Some, None, Decides, Option, sym, refl, ap, ◌∙◌, subst, arith}
+use Rattle.std.proofs.Common.{◌≡◌, ℕ, ◌<◌, Bool, ◌&&◌, eqb, List, length, get_or, drop, Decides, Option, refl, arith}
 use Rattle.std.proofs.lemmas.Bool.Decides.{Decides-eqb, Decides-and, Decides-like}
 use Rattle.order.specs.RoleSets.{InUse}
 use Rattle.layout.specs.declared.held.Table.{Table}
@@ -20,11 +20,10 @@ use Rattle.standing.proofs.Rows.{Decides-policy, Decides-grant, Decides-location
 use Rattle.standing.proofs.Paths.{steps_tell}
 use Rattle.standing.proofs.Templates.{templates_tell}
 use Rattle.standing.proofs.Continuing.{commands_tell}
-use Rattle.shape.specs.declared.place.Place.{Place}
 use Rattle.shape.specs.declared.place.Stage.{Stage}
 use Rattle.shape.specs.declared.place.Stage.TheVariants.{Draft, Live}
-use Rattle.shape.specs.Place.{rest_fault, table_fault, plain_fault, edges_fault, shelf_fault, placed, in_draft, ground_fault, program_fault, moving_fault, place_of, first_place}
-use Rattle.shape.specs.Shape.{Zeros, TableStands, TreeAt, total, ShelfStands, Still, ShapedBy, Shaped}
+use Rattle.shape.specs.Place.{rest_fault, table_fault, plain_fault, edges_fault, shelf_fault, placed, in_draft, ground_fault, program_fault, moving_fault, first_place}
+use Rattle.shape.specs.Shape.{Zeros, TableStands, TreeAt, total, ShelfStands, Still, Shaped}
 use Rattle.shape.proofs.Rows.{within-small}
 use Rattle.shape.proofs.Forest.{edges_tell}
 use Rattle.shape.proofs.Shelving.{shelf_fault-tells}

@@ -3,7 +3,6 @@ use Rattle.std.specs.Prelude.{◌≡◌, ℕ, ◌+◌, ◌<◌, ◌≤◌, List,
 use Rattle.order.specs.RoleSets.{InUse}
 use Rattle.rows.specs.declared.row.TreeLine.{TreeLine}
 use Rattle.layout.specs.declared.held.Table.{Table}
-use Rattle.layout.specs.declared.memory.Shelf.{Shelf}
 use Rattle.layout.specs.declared.memory.Tables.{Tables}
 use Rattle.layout.specs.Held.{in_use}
 use Rattle.layout.specs.Zeros.{policy0, grant0, location0, step0, line0, template0, pattern0, command0, job0, no_running, no_tree}

@@ -1,7 +1,7 @@
 -- Path steps that pass one after the other are paths of at most eight steps.
-use Rattle.std.proofs.Common.{◌≡◌, ℕ, zero, suc, ◌+◌, ◌-◌, ◌<◌, ◌≤◌, Bool, true, false, cond, ◌&&◌, eqb, ltb, ◌⊎◌, List, [], ◌∷◌, length, get_or, take, Some, None, Decides, Option, sym, refl, ap, ◌∙◌, subst, inl, inr, add-one, arith}
+use Rattle.std.proofs.Common.{◌≡◌, ℕ, zero, suc, ◌+◌, ◌-◌, ◌<◌, ◌≤◌, Bool, true, false, cond, ◌&&◌, eqb, ltb, ◌⊎◌, List, length, get_or, take, None, Decides, sym, refl, ap, ◌∙◌, subst, inl, inr, add-one, arith}
 use Rattle.std.proofs.lemmas.Bool.Decides.{nat_tests, Decides-eqb, Decides-ltb, Decides-and}
-use Rattle.std.proofs.lemmas.Bool.{cases_lt, cond-true, cond-false, eq-eqb, eqb-true}
+use Rattle.std.proofs.lemmas.Bool.{cases_lt, cond-true, eq-eqb, eqb-true}
 use Rattle.order.specs.RoleSets.{in_use_of, InUse}
 use Rattle.order.proofs.Tests.{Decides-in_use_of}
 use Rattle.rows.specs.declared.row.PathStepRow.{PathStepRow}
@@ -11,7 +11,7 @@ use Rattle.scan.proofs.Scan.{scan-each, each_scan}
 use Rattle.scan.proofs.Tells.{Tells, carried_step, Decides-cond}
 use Rattle.standing.specs.declared.sizes.Sizes.{Sizes}
 use Rattle.standing.specs.declared.steps.StepsBefore.{StepsBefore}
-use Rattle.standing.specs.Tests.{no_steps, step_passes, run_after, steps_after}
+use Rattle.standing.specs.Tests.{no_steps, step_passes, steps_after}
 use Rattle.standing.specs.Words.{StepsStand}
 
 -- a further step of the last path, or the first of the next

@@ -1,8 +1,8 @@
 -- Each row's test decides its sentence.
-use Rattle.std.proofs.Common.{◌≡◌, ℕ, ◌+◌, ◌-◌, ◌<◌, ◌≤◌, Bool, true, false, cond, ◌&&◌, ◌||◌, eqb, ltb, leb, ◌⊎◌, List, length, get_or, Some, None, Decides, Option, sym, refl, ap, ◌∙◌, subst, inl, inr, arith}
-use Rattle.std.proofs.lemmas.Bool.Decides.{nat_tests, Decides-eqb, Decides-ltb, Decides-and, Decides-or, Decides-like}
-use Rattle.std.proofs.lemmas.Bool.{cases_eq, eqb-true, eq-eqb, ne_eqb, cond-true, cond-false, and_parts, and_from, le-leb, leb-true, false≢true}
-use Rattle.order.specs.RoleSets.{has, In, in_use_of, InUse}
+use Rattle.std.proofs.Common.{◌≡◌, ℕ, ◌+◌, ◌-◌, ◌<◌, ◌≤◌, Bool, true, ◌&&◌, eqb, ltb, leb, ◌⊎◌, List, length, get_or, Some, None, Decides, Option, sym, ◌∙◌, subst, inl, inr, arith}
+use Rattle.std.proofs.lemmas.Bool.Decides.{Decides-eqb, Decides-ltb, Decides-and, Decides-or, Decides-like}
+use Rattle.std.proofs.lemmas.Bool.{cases_eq, eqb-true, eq-eqb, ne_eqb, cond-true, cond-false}
+use Rattle.order.specs.RoleSets.{has, in_use_of, InUse}
 use Rattle.order.proofs.Tests.{Decides-in_use_of, Decides-yes, Decides-no}
 use Rattle.rows.specs.declared.row.PolicyRow.{PolicyRow}
 use Rattle.rows.specs.declared.row.GrantRow.{GrantRow}

@@ -1,5 +1,5 @@
 -- Template lines that pass one after the other are templates.
-use Rattle.std.proofs.Common.{◌≡◌, ℕ, zero, suc, ◌+◌, ◌<◌, ◌≤◌, Bool, ◌&&◌, eqb, ltb, ◌⊎◌, List, [], ◌∷◌, length, get_or, take, Some, None, Decides, Option, sym, refl, ap, ◌∙◌, subst, inl, inr, add-one, arith}
+use Rattle.std.proofs.Common.{◌≡◌, ℕ, zero, suc, ◌+◌, ◌<◌, ◌&&◌, eqb, ltb, ◌⊎◌, List, length, get_or, take, None, Decides, sym, subst, inl, inr, add-one, arith}
 use Rattle.std.proofs.lemmas.Bool.Decides.{Decides-eqb, Decides-ltb, Decides-and}
 use Rattle.rows.specs.declared.row.TemplateRow.{TemplateRow}
 use Rattle.layout.specs.Zeros.{template0}
@@ -8,9 +8,8 @@ use Rattle.scan.proofs.Scan.{scan-each, each_scan}
 use Rattle.scan.proofs.Tells.{Tells, carried-last, Decides-cond}
 use Rattle.standing.specs.declared.sizes.Sizes.{Sizes}
 use Rattle.standing.specs.declared.lines.Home.TheVariants as home
-use Rattle.standing.specs.declared.lines.LineBefore.{LineBefore}
 use Rattle.standing.specs.declared.lines.LinesBefore.{LinesBefore}
-use Rattle.standing.specs.Tests.{root, line_passes, line_after, no_lines, template_passes, lines_after}
+use Rattle.standing.specs.Tests.{root, line_passes, no_lines, template_passes, lines_after}
 use Rattle.standing.specs.Words.{LineStands, TemplatesStand}
 use Rattle.standing.proofs.Rows.{Follows, Decides-line}
 use Rattle.standing.proofs.Trees.{at-root, root-at, at_most, deeper, follows-from}

@@ -52,7 +52,7 @@ fn templates_in(lines: &Table<TemplateRow, 256>) -> usize
 }
 
 pub fn sizes_of<O: Order>(t: &Tables) -> Sizes
-    ensures answer { result ≡ sizes_of size peak t.now }
+    ensures answer { result ≡ sizes_of O.size O.peak t.now }
 {
     Sizes {
         roles: O::role_count(),

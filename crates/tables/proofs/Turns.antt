@@ -182,7 +182,7 @@ got sheet held line location place frame t next p s is e =
       line = l.line;
       read = sym (line-here sheet held frame place s.sheet_same s.whole) ∙ l.read;
       here = l.read;
-      row_is = row_same sheet held (shows p.line).0 (shows p.line).1 l.line s.sheet_same l.kind-is l.bytes-are;
+      row_is = row_same sheet held (shows p.line).0 (shows p.line).1 l.line s.sheet_same l.kind_is l.bytes_are;
     }
 
 -- the line is refused

@@ -1,5 +1,5 @@
 -- The tests for rows of zeros say what they test.
-use Rattle.std.proofs.Common.{◌≡◌, Bool, true, ◌&&◌, eqb, Decides, ap}
+use Rattle.std.proofs.Common.{◌≡◌, true, ◌&&◌, eqb, Decides, ap}
 use Rattle.std.proofs.lemmas.Bool.{eqb-true, and_parts}
 use Rattle.rows.specs.declared.row.PolicyRow.{PolicyRow}
 use Rattle.rows.specs.declared.row.GrantRow.{GrantRow}

@@ -16,7 +16,7 @@ pub trait Zeroed {
 
 // The first row from the place on that is not all zero.
 pub fn first_written<T: Zeroed>(rows: &[T], from: usize) -> Option<usize>
-    ensures answer { result ≡ first_bad (λ i x. zeroed x) from (drop from rows.now) }
+    ensures answer { result ≡ first_bad (λ i x. T.zeroed x) from (drop from rows.now) }
     ensures inside { IfSome result (λ i. i < length rows.now) }
 {
     for i in from..rows.len() {

@@ -5,8 +5,8 @@ use Rattle.dump.proofs.lines.push_slots.Goals as goal
 
 pub loop-k-preserved : goal.loop-k-preserved
 loop-k-preserved c =
-    let pushed = chosen _ _ _ _ c.push-str.ensures.bytes (ap is_ok c.in-ok-push-str.was) in
-    one_slot _ _ c.args.slots.now _ c.loop-k.invariant _ _ c.loop-k-test.true pushed (c.as-str.ensures.value ∙ c.in-ok-piece.ensures.answer)
+    let pushed = chosen _ _ _ _ c.push_str.ensures.bytes (ap is_ok c.in_ok-push_str.was) in
+    one_slot _ _ c.args.slots.now _ c.loop-k.invariant _ _ c.loop-k-test.true pushed (c.as_str.ensures.value ∙ c.in_ok-piece.ensures.answer)
 
 pub returns : goal.returns
 returns c = record { answer = all_slots _ _ c.args.slots.now _ c.loop-k.invariant c.loop-k-test.false }

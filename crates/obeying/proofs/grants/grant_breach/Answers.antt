@@ -6,12 +6,12 @@ use Rattle.scan.proofs.Scan.{bad_here, bad_next, bad_done}
 use Rattle.obeying.specs.Breaches.{grant_passes}
 use Rattle.obeying.proofs.grants.grant_breach.Goals as goal
 
-pub returns-then-not-grant-obeys : goal.returns-then-not-grant-obeys
-returns-then-not-grant-obeys g c =
+pub returns-then-not-grant_obeys : goal.returns-then-not-grant_obeys
+returns-then-not-grant_obeys g c =
     let passes = λ (i : ℕ) (x : GrantRow). grant_passes (g.O.Order.below c.args.order.now) g.O.Order.peak x in
-    let broken = not_from_Decides _ c.grant-obeys.ensures.says c.if-not-grant-obeys.true in
+    let broken = not_from_Decides _ c.grant_obeys.ensures.says c.if-not-grant_obeys.true in
     record {
-      answer = sym (bad_here passes c.args.grants.now c.loop-i.i grant0 c.loop-i-test.true (sym c.grant-obeys.ensures.answer ∙ c.if-not-grant-obeys.true)) ∙ c.loop-i.invariant.0;
+      answer = sym (bad_here passes c.args.grants.now c.loop-i.i grant0 c.loop-i-test.true (sym c.grant_obeys.ensures.answer ∙ c.if-not-grant_obeys.true)) ∙ c.loop-i.invariant.0;
       stands = λ e. let z : ◌≡◌ {A = ℕ} 0 1 = cc in absurd (omega arith);
       told = λ w. absurd (broken (w c.loop-i.i c.loop-i-test.true));
       first = record { inside = c.loop-i-test.true; broken = broken; before = c.loop-i.invariant.1 };
@@ -20,8 +20,8 @@ returns-then-not-grant-obeys g c =
 pub loop-i-preserved : goal.loop-i-preserved
 loop-i-preserved g c =
     let passes = λ (i : ℕ) (x : GrantRow). grant_passes (g.O.Order.below c.args.order.now) g.O.Order.peak x in (
-      sym (bad_next passes c.args.grants.now c.loop-i.i grant0 c.loop-i-test.true (sym c.grant-obeys.ensures.answer ∙ c.if-not-grant-obeys.false)) ∙ c.loop-i.invariant.0,
-      below_more _ _ c.loop-i.invariant.1 (c.grant-obeys.ensures.says.0 c.if-not-grant-obeys.false),
+      sym (bad_next passes c.args.grants.now c.loop-i.i grant0 c.loop-i-test.true (sym c.grant_obeys.ensures.answer ∙ c.if-not-grant_obeys.false)) ∙ c.loop-i.invariant.0,
+      below_more _ _ c.loop-i.invariant.1 (c.grant_obeys.ensures.says.0 c.if-not-grant_obeys.false),
     )
 
 pub returns : goal.returns

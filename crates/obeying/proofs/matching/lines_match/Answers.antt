@@ -8,19 +8,19 @@ use Rattle.scan.proofs.Scan.{bad_here, bad_next, bad_done}
 use Rattle.obeying.specs.Breaches.{line_matches}
 use Rattle.obeying.proofs.matching.lines_match.Goals as goal
 
-pub returns-then-not-line-matches : goal.returns-then-not-line-matches
-returns-then-not-line-matches g c =
+pub returns-then-not-line_matches : goal.returns-then-not-line_matches
+returns-then-not-line_matches g c =
     let passes = λ (i : ℕ) (x : TreeLine). line_matches (g.O.Order.below c.args.order.now) c.args.pattern.top c.args.pattern.all x in
     record {
-      answer = ap clear (sym (bad_here passes c.args.tree.now c.loop-i.i line0 c.loop-i-test.true (sym c.line-matches.ensures.answer ∙ c.if-not-line-matches.true)) ∙ c.loop-i.invariant.0);
-      says = Decides-no (λ w. not_from_Decides _ c.line-matches.ensures.says c.if-not-line-matches.true (w c.loop-i.i c.loop-i-test.true));
+      answer = ap clear (sym (bad_here passes c.args.tree.now c.loop-i.i line0 c.loop-i-test.true (sym c.line_matches.ensures.answer ∙ c.if-not-line_matches.true)) ∙ c.loop-i.invariant.0);
+      says = Decides-no (λ w. not_from_Decides _ c.line_matches.ensures.says c.if-not-line_matches.true (w c.loop-i.i c.loop-i-test.true));
     }
 
 pub loop-i-preserved : goal.loop-i-preserved
 loop-i-preserved g c =
     let passes = λ (i : ℕ) (x : TreeLine). line_matches (g.O.Order.below c.args.order.now) c.args.pattern.top c.args.pattern.all x in (
-      sym (bad_next passes c.args.tree.now c.loop-i.i line0 c.loop-i-test.true (sym c.line-matches.ensures.answer ∙ c.if-not-line-matches.false)) ∙ c.loop-i.invariant.0,
-      below_more _ _ c.loop-i.invariant.1 (c.line-matches.ensures.says.0 c.if-not-line-matches.false),
+      sym (bad_next passes c.args.tree.now c.loop-i.i line0 c.loop-i-test.true (sym c.line_matches.ensures.answer ∙ c.if-not-line_matches.false)) ∙ c.loop-i.invariant.0,
+      below_more _ _ c.loop-i.invariant.1 (c.line_matches.ensures.says.0 c.if-not-line_matches.false),
     )
 
 pub returns : goal.returns

@@ -1,4 +1,4 @@
-use Rattle.std.proofs.Common.{◌≡◌, ℕ, length, sym, refl, ◌∙◌, subst, arith, below_more}
+use Rattle.std.proofs.Common.{◌≡◌, ℕ, length, sym, refl, ◌∙◌, arith, below_more}
 use Rattle.obeying.specs.Breaches.{line_breach}
 use Rattle.obeying.proofs.Lines.{breach_none, breach_next, breach_here, breach_done, obeys_from, obeys_each}
 use Rattle.obeying.proofs.trees.tree_breach.Goals as goal
@@ -10,7 +10,7 @@ pub returns-in-Some : goal.returns-in-Some
 returns-in-Some g c =
     let says = c.in-Some.ensures.says in
     record {
-      answer = sym (breach_here _ c.loop-i.i (length c.args.tree.now) c.in-Some.rule c.loop-i-test.true c.loop-i.invariant.0 (sym c.line-breach.ensures.answer ∙ c.in-Some.is));
+      answer = sym (breach_here _ c.loop-i.i (length c.args.tree.now) c.in-Some.rule c.loop-i-test.true c.loop-i.invariant.0 (sym c.line_breach.ensures.answer ∙ c.in-Some.is));
       stands = λ e. let z : ◌≡◌ {A = ℕ} 0 1 = cc in absurd (omega arith);
       told = λ w. absurd (says.0 (obeys_each w c.loop-i.i c.loop-i-test.true c.in-Some.rule));
       first = record { inside = c.loop-i-test.true; broken = says.0; lowest = says.1; before = c.loop-i.invariant.1 };
@@ -18,8 +18,8 @@ returns-in-Some g c =
 
 pub loop-i-preserved : goal.loop-i-preserved
 loop-i-preserved g c = (
-  breach_next _ c.loop-i.i c.loop-i.invariant.0 (sym c.line-breach.ensures.answer ∙ c.in-default.is),
-  below_more _ _ c.loop-i.invariant.1 c.in-default.ensures.says,
+  breach_next _ c.loop-i.i c.loop-i.invariant.0 (sym c.line_breach.ensures.answer ∙ c.in_default.is),
+  below_more _ _ c.loop-i.invariant.1 c.in_default.ensures.says,
 )
 
 pub returns : goal.returns

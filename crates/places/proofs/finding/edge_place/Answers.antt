@@ -16,7 +16,7 @@ returns-in-Some c =
 
 pub loop-location-preserved : goal.loop-location-preserved
 loop-location-preserved c =
-    (omega (arith, c.loop-location.invariant.0), on c.args.trees.now _ _ _ c.loop-location-test.true c.loop-location.invariant.1 _ c.edges-in-left.ensures.answer c.in-default.ensures.beyond)
+    (omega (arith, c.loop-location.invariant.0), on c.args.trees.now _ _ _ c.loop-location-test.true c.loop-location.invariant.1 _ c.edges_in-left.ensures.answer c.in_default.ensures.beyond)
 
 pub returns : goal.returns
 returns c =

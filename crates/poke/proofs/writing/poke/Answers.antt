@@ -1,11 +1,11 @@
-use Rattle.std.proofs.Common.{Err, ap, ◌∙◌}
+use Rattle.std.proofs.Common.{◌∙◌}
 use Rattle.poke.proofs.Refused.{kept-poked}
 use Rattle.poke.proofs.writing.poke.Goals as goal
 
 pub returns-in-Err : goal.returns-in-Err
 returns-in-Err c =
     let told = c.in-Err.ensures.answer in
-    let written = c.poke-any.ensures.after in
+    let written = c.poke_any.ensures.after in
     record {
       answer = told;
       after = written;

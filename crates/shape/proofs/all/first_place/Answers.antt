@@ -5,5 +5,5 @@ use Rattle.shape.proofs.all.first_place.Goals as goal
 
 pub returns : goal.returns
 returns g c = record {
-  answer = c.place-of.ensures.answer ∙ ap (λ (s : Sizes). place_of s c.args.t.now c.args.stage) c.sizes-of.ensures.answer;
+  answer = c.place_of.ensures.answer ∙ ap (λ (s : Sizes). place_of s c.args.t.now c.args.stage) c.sizes_of.ensures.answer;
 }

@@ -8,7 +8,7 @@ pub returns : goal.returns
 returns g c =
     let size = g.O.Order.size in
     let peak = g.O.Order.peak in
-    let place = c.first-place.ensures.answer in
+    let place = c.first_place.ensures.answer in
     let tells = shape_tells size peak c.args.t.now c.args.stage in
     record {
       place = place;

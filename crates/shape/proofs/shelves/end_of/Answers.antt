@@ -6,7 +6,7 @@ use Rattle.shape.proofs.shelves.end_of.Goals as goal
 
 pub loop-i-preserved : goal.loop-i-preserved
 loop-i-preserved c =
-    ap (λ (m : ℕ). carried shelf_after m (drop (c.loop-i.i + 1) c.args.trees.now)) c.shelf-after-start.ensures.answer
+    ap (λ (m : ℕ). carried shelf_after m (drop (c.loop-i.i + 1) c.args.trees.now)) c.shelf_after-start.ensures.answer
     ∙ (sym (carried-next shelf_after c.loop-i.start c.args.trees.now c.loop-i.i 0 c.loop-i-test.true) ∙ c.loop-i.invariant)
 
 pub returns : goal.returns

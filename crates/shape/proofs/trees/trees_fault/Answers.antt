@@ -1,12 +1,12 @@
-use Rattle.std.proofs.Common.{◌≡◌, ℕ, ◌+◌, get_or, drop, sym, ap, ◌∙◌, arith}
+use Rattle.std.proofs.Common.{ℕ, ◌+◌, get_or, drop, sym, ap, ◌∙◌, arith}
 use Rattle.scan.proofs.Scan.{first-here, first_next, first_done}
 use Rattle.layout.specs.Zeros.{no_tree}
 use Rattle.shape.specs.Place.{trees_fault, tree_fault, base_after}
 use Rattle.shape.proofs.Rows.{within-small}
 use Rattle.shape.proofs.trees.trees_fault.Goals as goal
 
-pub tree-fault-requires : goal.tree-fault-requires
-tree-fault-requires c = omega (arith, c.loop-l.invariant.0)
+pub tree_fault-requires : goal.tree_fault-requires
+tree_fault-requires c = omega (arith, c.loop-l.invariant.0)
 
 pub returns : goal.returns
 returns c = record { answer = sym (first_done (tree_fault c.args.names.now) base_after c.loop-l.base c.args.trees.now c.loop-l.l (omega arith)) ∙ c.loop-l.invariant.1 }
@@ -16,10 +16,10 @@ loop-l-preserved c =
     let k = within-small (get_or c.args.trees.now c.loop-l.l no_tree).count 128 in (
       omega (arith, c.within-base.ensures.answer),
       ap (λ (m : ℕ). trees_fault c.args.names.now (c.loop-l.base + m) (c.loop-l.l + 1) (drop (c.loop-l.l + 1) c.args.trees.now)) c.within-base.ensures.answer
-          ∙ (sym (first_next (tree_fault c.args.names.now) base_after c.loop-l.base c.args.trees.now c.loop-l.l no_tree (omega arith) (sym c.tree-fault.ensures.answer ∙ c.in-default.is)) ∙ c.loop-l.invariant.1),
+          ∙ (sym (first_next (tree_fault c.args.names.now) base_after c.loop-l.base c.args.trees.now c.loop-l.l no_tree (omega arith) (sym c.tree_fault.ensures.answer ∙ c.in_default.is)) ∙ c.loop-l.invariant.1),
     )
 
 pub returns-in-Some : goal.returns-in-Some
 returns-in-Some c = record {
-  answer = sym (first-here (tree_fault c.args.names.now) base_after c.loop-l.base c.args.trees.now c.loop-l.l no_tree c.in-Some.row (omega arith) (sym c.tree-fault.ensures.answer ∙ c.in-Some.is)) ∙ c.loop-l.invariant.1;
+  answer = sym (first-here (tree_fault c.args.names.now) base_after c.loop-l.base c.args.trees.now c.loop-l.l no_tree c.in-Some.row (omega arith) (sym c.tree_fault.ensures.answer ∙ c.in-Some.is)) ∙ c.loop-l.invariant.1;
 }

@@ -21,16 +21,16 @@ returns-in-None c =
       holds = l.invariant.holds;
     }
 
-pub returns-in-err-location : goal.returns-in-err-location
-returns-in-err-location c =
+pub returns-in_err-location-in-Some : goal.returns-in_err-location-in-Some
+returns-in_err-location-in-Some c =
     let l = c.loop-fault in
     let g = got _ _ _ l.location l.reader.place l.reader.frame _ _ c.in-Some.placed l.invariant c.in-Some.is c.in-Ok.ensures.answer in
-    let e = err_from_is_err_and c.from-residual.result c.from-residual.ensures.1 in
+    let e = err_from_is_err_and c.from_residual.result c.from_residual.ensures.1 in
     record {
       answer =
-          line_refused _ _ _ l.location l.reader.place l.reader.frame _ _ _ _ _ _ l.invariant g c.last-kind.ensures.answer
-          (e.1 ∙ ap Err e.2) c.in-err-location.ensures.answer;
-      holds = holds_own _ _ c.file-line.ensures.after;
+          line_refused _ _ _ l.location l.reader.place l.reader.frame _ _ _ _ _ _ l.invariant g c.last_kind.ensures.answer
+          (e.1 ∙ ap Err e.2) c.in_err-location-in-Some.ensures.answer;
+      holds = holds_own _ _ c.file_line.ensures.after;
     }
 
 pub loop-fault-preserved : goal.loop-fault-preserved
@@ -38,5 +38,5 @@ loop-fault-preserved c =
     let l = c.loop-fault in
     let r = c.in-Ok.ensures in
     let g = got _ _ _ l.location l.reader.place l.reader.frame _ _ c.in-Some.placed l.invariant c.in-Some.is r.answer in
-    line-filed _ _ _ _ _ _ _ _ _ _ _ _ _ _ l.invariant g c.last-kind.ensures.answer c.in-ok-location.ensures.answer
-    c.in-ok-location.ensures.after r.same r.place r.frame (moved _ _ _ _ c.in-Some.is r.moves)
+    line-filed _ _ _ _ _ _ _ _ _ _ _ _ _ _ l.invariant g c.last_kind.ensures.answer c.in_ok-location-in-Some.ensures.answer
+    c.in_ok-location-in-Some.ensures.after r.same r.place r.frame (moved _ _ _ _ c.in-Some.is r.moves)

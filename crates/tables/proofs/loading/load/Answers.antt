@@ -7,7 +7,7 @@ pub returns-in-Err : goal.returns-in-Err
 returns-in-Err c =
     let sheet = c.args.sheet.now in
     record {
-      reads = reads_in_one_way sheet (λ i. omega (arith, c.type-inv.sheet i));
+      reads = reads_in_one_way sheet (λ i. omega (arith, c.type_inv.sheet i));
       loads = λ fs end reads. loads_refused _ sheet fs end _ _ _ (c.in-Err.ensures.answer fs end reads) c.blank-in-Err.ensures.answer;
       holds = c.blank-in-Err.ensures.answer;
     }
@@ -16,7 +16,7 @@ pub returns-in-Ok : goal.returns-in-Ok
 returns-in-Ok c =
     let sheet = c.args.sheet.now in
     record {
-      reads = reads_in_one_way sheet (λ i. omega (arith, c.type-inv.sheet i));
+      reads = reads_in_one_way sheet (λ i. omega (arith, c.type_inv.sheet i));
       loads = λ fs end reads. loads_filed c.args.blank sheet fs end _ _ (c.in-Ok.ensures.answer fs end reads);
       holds = c.in-Ok.ensures.holds;
     }
