@@ -1,6 +1,6 @@
 -- What is written by the rules is read back.
 use Rattle.std.proofs.Common.{◌≡◌, ℕ, ◌^◌, ◌<◌, true, false, List, [], ◌∷◌, ◌++◌, length, Some, decimal, refl, ap, ◌∙◌, arith, rules}
-use Rattle.std.specs.List.{AllByRecursion as All}
+use Rattle.std.specs.List.{AllByRecursion}
 use Rattle.std.specs.Str.{all_ascii_digits}
 use Rattle.std.proofs.lemmas.Fmt.{decimal_nonempty, digits_decimal, digits_value-decimal}
 use Rattle.std.proofs.lemmas.Str.Parse.{IsNumeralModel, numerals_by_weight, tells_all_ascii_digits}
@@ -25,17 +25,17 @@ codes_read_back n small =
     ∙ cond-true _ _ _ (le-leb n 4294967295 (omega arith))
 
 abbrev Dark : List ℕ → Type 0
-Dark w = All (λ b. is_blank b ≡ false) w
+Dark w = AllByRecursion (λ b. is_blank b ≡ false) w
 
-dark_longer : (b : ℕ) (ws : List (List ℕ)) → is_blank b ≡ false → All Dark ws → All Dark (longer b ws)
+dark_longer : (b : ℕ) (ws : List (List ℕ)) → is_blank b ≡ false → AllByRecursion Dark ws → AllByRecursion Dark (longer b ws)
 dark_longer b [] dark all = ((dark, tt), tt)
 dark_longer b (w ∷ ws) dark all = ((dark, all.0), all.1)
 
-dark_stretches : (line : List ℕ) → All Dark (stretches is_blank line)
+dark_stretches : (line : List ℕ) → AllByRecursion Dark (stretches is_blank line)
 dark_stretches [] = (tt, tt)
-dark_stretches (b ∷ bs) = cond_both (is_blank b) _ _ (All Dark) (λ _. (tt, dark_stretches bs)) (λ dark. dark_longer b _ dark (dark_stretches bs))
+dark_stretches (b ∷ bs) = cond_both (is_blank b) _ _ (AllByRecursion Dark) (λ _. (tt, dark_stretches bs)) (λ dark. dark_longer b _ dark (dark_stretches bs))
 
-filled-words : (ws : List (List ℕ)) → All Dark ws → All Word (filled ws)
+filled-words : (ws : List (List ℕ)) → AllByRecursion Dark ws → AllByRecursion Word (filled ws)
 filled-words [] all = tt
 filled-words ([] ∷ ws) all = filled-words ws all.1
 filled-words ((b ∷ w) ∷ ws) all = ((omega arith, all.0), filled-words ws all.1)

@@ -1,6 +1,6 @@
 -- What holds of the definitions as a whole: what is written by the rules is read back as it was meant.
 use Rattle.std.specs.Prelude.{◌≡◌, ℕ, ◌^◌, ◌<◌, false, List, [], ◌∷◌, ◌++◌, length, Some, decimal}
-use Rattle.std.specs.List.{AllByRecursion as All}
+use Rattle.std.specs.List.{AllByRecursion}
 use Rattle.words.specs.Cutting.{is_blank, words_of}
 use Rattle.words.specs.Spelling.{role_code}
 
@@ -10,7 +10,7 @@ CodesReadBack = (code : ℕ) → code < 2 ^ 32 → role_code (decimal code) ≡ 
 
 -- A word holds a byte, and no blank.
 abbrev pub Word : List ℕ → Type 0
-Word w = (0 < length w) × All (λ b. is_blank b ≡ false) w
+Word w = (0 < length w) × AllByRecursion (λ b. is_blank b ≡ false) w
 
 -- Words with a space behind each.
 abbrev pub spaced : List (List ℕ) → List ℕ
@@ -19,12 +19,12 @@ spaced (w ∷ ws) = w ++ (32 ∷ spaced ws)
 
 -- The words of any line are words.
 abbrev pub LinesHoldWords : Type 0
-LinesHoldWords = (line : List ℕ) → All Word (words_of line)
+LinesHoldWords = (line : List ℕ) → AllByRecursion Word (words_of line)
 
 -- Words that are written as a line are the words of that line.
 abbrev pub WordsReadBack : Type 0
-WordsReadBack = (words : List (List ℕ)) → All Word words → words_of (spaced words) ≡ words
+WordsReadBack = (words : List (List ℕ)) → AllByRecursion Word words → words_of (spaced words) ≡ words
 
--- All three.
+-- AllByRecursion three.
 abbrev pub ReadsBack : Type 0
 ReadsBack = CodesReadBack × LinesHoldWords × WordsReadBack
