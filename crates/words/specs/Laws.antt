@@ -25,6 +25,6 @@ LinesHoldWords = (line : List ℕ) → AllByRecursion Word (words_of line)
 abbrev pub WordsReadBack : Type 0
 WordsReadBack = (words : List (List ℕ)) → AllByRecursion Word words → words_of (spaced words) ≡ words
 
--- AllByRecursion three.
+-- All three.
 abbrev pub ReadsBack : Type 0
 ReadsBack = CodesReadBack × LinesHoldWords × WordsReadBack
