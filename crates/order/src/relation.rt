@@ -2,9 +2,9 @@
 ghost use Rattle.std.specs.Prelude.{◌≡◌, ℕ, ◌<◌, ◌≤◌, Bool, true};
 ghost use Rattle.order.specs.Laws.{Lawful};
 
-// The roles are the codes below COUNT, and TOP is the role that every role is at or below. No clause can name an
-// associated constant today: in clauses the ghost members `size` and `peak` stand for the two, and `role_count` and
-// `top_role` tie them to the code, each implementation answering `Self::COUNT` and `Self::TOP`.
+// The roles are the codes below COUNT, and TOP is the role that every role is at or below. In clauses the ghost members
+// `size` and `peak` stand for the two, and `role_count` and `top_role` tie them to the code, each implementation answering
+// `Self::COUNT` and `Self::TOP`.
 pub trait Order {
     const COUNT: u32;
 
