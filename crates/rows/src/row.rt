@@ -9,12 +9,12 @@ ghost use Rattle.rows.specs.Decoding.{policy_row, grant_row, location_row, path_
 use number::{Width, read_number};
 use order::RoleSet;
 
-#[derive(Clone, Copy)]
+#[derive(Clone, Copy, Debug, Default, PartialEq, Eq)]
 pub struct PolicyRow {
     pub least: RoleSet,
 }
 
-#[derive(Clone, Copy)]
+#[derive(Clone, Copy, Debug, Default, PartialEq, Eq)]
 pub struct GrantRow {
     pub policy: u32,
     pub direction: u32,
@@ -22,12 +22,12 @@ pub struct GrantRow {
     pub role: u32,
 }
 
-#[derive(Clone, Copy)]
+#[derive(Clone, Copy, Debug, Default, PartialEq, Eq)]
 pub struct LocationRow {
     pub policy: u32,
 }
 
-#[derive(Clone, Copy)]
+#[derive(Clone, Copy, Debug, Default, PartialEq, Eq)]
 pub struct PathStepRow {
     pub path: u32,
     pub label: u32,
@@ -35,7 +35,7 @@ pub struct PathStepRow {
 }
 
 // What edges and template lines have in common.
-#[derive(Clone, Copy)]
+#[derive(Clone, Copy, Debug, Default, PartialEq, Eq)]
 pub struct TreeLine {
     pub depth: u32,
     pub label: u32,
@@ -45,19 +45,19 @@ pub struct TreeLine {
     pub second: u32,
 }
 
-#[derive(Clone, Copy)]
+#[derive(Clone, Copy, Debug, Default, PartialEq, Eq)]
 pub struct EdgeRow {
     pub location: u32,
     pub line: TreeLine,
 }
 
-#[derive(Clone, Copy)]
+#[derive(Clone, Copy, Debug, Default, PartialEq, Eq)]
 pub struct TemplateRow {
     pub template: u32,
     pub line: TreeLine,
 }
 
-#[derive(Clone, Copy)]
+#[derive(Clone, Copy, Debug, Default, PartialEq, Eq)]
 pub struct PatternRow {
     pub kind: u32,
     pub slot: u32,
@@ -66,7 +66,7 @@ pub struct PatternRow {
     pub second: RoleSet,
 }
 
-#[derive(Clone, Copy)]
+#[derive(Clone, Copy, Debug, Default, PartialEq, Eq)]
 pub struct CommandRow {
     pub verb: u32,
     pub next: u32,
@@ -78,7 +78,7 @@ pub struct CommandRow {
     pub fourth: u32,
 }
 
-#[derive(Clone, Copy)]
+#[derive(Clone, Copy, Debug, Default, PartialEq, Eq)]
 pub struct JobRow {
     pub policy: u32,
     pub roles: RoleSet,
