@@ -69,7 +69,7 @@ fn draws(rt: &HostRuntime) -> io::Result<()> {
 const CODES: [Role; 8] = [0, 1, 31, 32, 62, 63, 64, 4294967295];
 
 fn codes<O: Order>(rt: &HostRuntime, name: &str, order: &O) -> io::Result<()> {
-    let top = O::top_role();
+    let top = O::TOP;
     tell(
         rt,
         name,
@@ -87,7 +87,7 @@ fn codes<O: Order>(rt: &HostRuntime, name: &str, order: &O) -> io::Result<()> {
 
 // A set of one role, for each code; a code above 63 makes the empty set.
 fn sets<O: Order>(rt: &HostRuntime, name: &str, order: &O) -> io::Result<()> {
-    let top = with_role(0, O::top_role());
+    let top = with_role(0, O::TOP);
     tell(rt, name, "{r} <= itself, open to top, in use, holds top")?;
     for role in CODES {
         let set = with_role(0, role);

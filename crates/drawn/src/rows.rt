@@ -31,9 +31,9 @@ impl Order for Drawn {
 
     const TOP: u32 = 0;
 
-    ghost size = { 32 };
+    ghost COUNT = { 32 };
 
-    ghost peak = { 0 };
+    ghost TOP = { 0 };
 
     ghost below = { λ s. rows_below s.rows };
 
@@ -50,14 +50,6 @@ impl Order for Drawn {
     ghost topmost = { λ s. s.topmost };
 
     ghost lawful = { λ s. rows_lawful s.rows s.reflexive (rows_transitive s.rows s.transitive) s.topmost };
-
-    fn role_count() -> u32 {
-        Self::COUNT
-    }
-
-    fn top_role() -> u32 {
-        Self::TOP
-    }
 
     fn at_or_below(&self, a: Role, b: Role) -> bool {
         if a < 32 && b < 32 {

@@ -9,18 +9,18 @@ use order::Order;
 use rows::GrantRow;
 
 fn grant_obeys<O: Order>(order: &O, grant: &GrantRow) -> bool
-    ensures answer { result ≡ grant_passes (O.below order.now) O.peak grant.now }
-    ensures says { Decides result (GrantObeys (O.below order.now) O.peak grant.now) }
+    ensures answer { result ≡ grant_passes (O.below order.now) O.TOP grant.now }
+    ensures says { Decides result (GrantObeys (O.below order.now) O.TOP grant.now) }
 {
-    grant.direction != 1 || !order.at_or_below(O::top_role(), grant.role)
+    grant.direction != 1 || !order.at_or_below(O::TOP, grant.role)
 }
 
 // The first grant that breaks its rule.
 pub fn grant_breach<O: Order>(order: &O, grants: &[GrantRow]) -> Option<usize>
-    ensures answer { result ≡ grant_breach (O.below order.now) O.peak grants.now }
-    ensures stands { result ≡ None → Each (GrantObeys (O.below order.now) O.peak) grant0 grants.now }
-    ensures told { Each (GrantObeys (O.below order.now) O.peak) grant0 grants.now → result ≡ None }
-    ensures first { IfSome result (FirstRow (GrantObeys (O.below order.now) O.peak) grant0 grants.now) }
+    ensures answer { result ≡ grant_breach (O.below order.now) O.TOP grants.now }
+    ensures stands { result ≡ None → Each (GrantObeys (O.below order.now) O.TOP) grant0 grants.now }
+    ensures told { Each (GrantObeys (O.below order.now) O.TOP) grant0 grants.now → result ≡ None }
+    ensures first { IfSome result (FirstRow (GrantObeys (O.below order.now) O.TOP) grant0 grants.now) }
 {
     for i in 0..grants.len() {
         if !grant_obeys(order, &grants[i]) {

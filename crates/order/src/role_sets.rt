@@ -114,33 +114,29 @@ pub fn opens<O: Order>(order: &O, set: RoleSet, roles: RoleSet) -> bool
     roles != 0 && set_below(order, set, roles)
 }
 
-// Whether the set can stand in a table: it is not empty, and each of its roles is one of the order's.
-pub fn in_use<O: Order>(set: RoleSet) -> bool
-    ensures answer { result ≡ in_use O.size set }
-    ensures says { Decides result (InUse O.size set) }
-{
-    for role in roles_of(set) {
-        if role >= O::role_count() {
-            return false;
-        }
-    }
-    set != 0
-}
-
 // Whether the set can stand in a table where the roles are the first `count` codes: it is not empty, and each of its roles
 // is one of them.
 pub fn in_use_of(count: Role, set: RoleSet) -> bool
     ensures answer { result ≡ in_use_of count set }
+    ensures roles { result ≡ in_use count set }
     ensures says { Decides result (InUse count set) }
 {
     set != 0 && (count >= 64 || set >> count == 0)
 }
 
+// Whether the set can stand in a table under the order.
+pub fn in_use<O: Order>(set: RoleSet) -> bool
+    ensures answer { result ≡ in_use O.COUNT set }
+    ensures says { Decides result (InUse O.COUNT set) }
+{
+    in_use_of(O::COUNT, set)
+}
+
 // Whether the order's top role is in the set.
 pub fn holds_top<O: Order>(set: RoleSet) -> bool
-    ensures answer { result ≡ has set O.peak }
+    ensures answer { result ≡ has set O.TOP }
 {
-    has_role(set, O::top_role())
+    has_role(set, O::TOP)
 }
 
 // The laws of role sets that the layers above rest on, for every lawful order.

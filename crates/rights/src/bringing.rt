@@ -42,9 +42,9 @@ impl Order for Rights {
 
     const TOP: u32 = 63;
 
-    ghost size = { 64 };
+    ghost COUNT = { 64 };
 
-    ghost peak = { 63 };
+    ghost TOP = { 63 };
 
     ghost below = { λ _. rights_below };
 
@@ -61,14 +61,6 @@ impl Order for Rights {
     ghost topmost = { λ s. rights_lawful.topmost };
 
     ghost lawful = { λ s. rights_lawful };
-
-    fn role_count() -> u32 {
-        Self::COUNT
-    }
-
-    fn top_role() -> u32 {
-        Self::TOP
-    }
 
     fn at_or_below(&self, a: Role, b: Role) -> bool {
         if a < 64 && b < 64 { among(a, b) } else { false }

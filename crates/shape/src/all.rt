@@ -76,7 +76,7 @@ fn place_of(names: &Sizes, t: &Tables, stage: Stage) -> Option<Place>
 }
 
 fn first_place<O: Order>(t: &Tables, stage: Stage) -> Option<Place>
-    ensures answer { result ≡ first_place O.size O.peak t.now stage }
+    ensures answer { result ≡ first_place O.COUNT O.TOP t.now stage }
 {
     place_of(&sizes_of::<O>(t), t, stage)
 }
@@ -84,9 +84,9 @@ fn first_place<O: Order>(t: &Tables, stage: Stage) -> Option<Place>
 // The first place where the tables of a draft or of a live network have no shape under the order; none exactly when they
 // have it, and then they hold a network: its rows, zeros behind them, and nothing else.
 pub fn shape<O: Order>(t: &Tables, stage: Stage) -> Option<Place>
-    ensures place { result ≡ first_place O.size O.peak t.now stage }
-    ensures stands { result ≡ None → Shaped O.size O.peak t.now stage }
-    ensures told { Shaped O.size O.peak t.now stage → result ≡ None }
+    ensures place { result ≡ first_place O.COUNT O.TOP t.now stage }
+    ensures stands { result ≡ None → Shaped O.COUNT O.TOP t.now stage }
+    ensures told { Shaped O.COUNT O.TOP t.now stage → result ≡ None }
     ensures holds { result ≡ None → Holds t.now (network t.now) }
 {
     sized(t);

@@ -52,11 +52,11 @@ fn templates_in(lines: &Table<TemplateRow, 256>) -> usize
 }
 
 pub fn sizes_of<O: Order>(t: &Tables) -> Sizes
-    ensures answer { result ≡ sizes_of O.size O.peak t.now }
+    ensures answer { result ≡ sizes_of O.COUNT O.TOP t.now }
 {
     Sizes {
-        roles: O::role_count(),
-        top: O::top_role(),
+        roles: O::COUNT,
+        top: O::TOP,
         policies: within(t.policies.count, 16),
         locations: within(t.locations.count, 16),
         paths: paths_in(&t.steps),

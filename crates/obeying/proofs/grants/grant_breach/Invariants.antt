@@ -7,5 +7,5 @@ use Rattle.obeying.proofs.grants.grant_breach.Given as goal
 
 abbrev pub invariant-loop-i : goal.invariant-loop-i
 invariant-loop-i g l =
-    (first_bad (λ i x. grant_passes (g.O.Order.below l.order) g.O.Order.peak x) l.i (drop l.i l.grants) ≡ grant_breach (g.O.Order.below l.order) g.O.Order.peak l.grants)
-    × ((k : ℕ) → k < l.i → GrantObeys (g.O.Order.below l.order) g.O.Order.peak (get_or l.grants k grant0))
+    (first_bad (λ i x. grant_passes (g.O.Order.below l.order) g.O.Order.TOP x) l.i (drop l.i l.grants) ≡ grant_breach (g.O.Order.below l.order) g.O.Order.TOP l.grants)
+    × ((k : ℕ) → k < l.i → GrantObeys (g.O.Order.below l.order) g.O.Order.TOP (get_or l.grants k grant0))

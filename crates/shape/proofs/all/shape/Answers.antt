@@ -6,8 +6,8 @@ use Rattle.shape.proofs.all.shape.Goals as goal
 
 pub returns : goal.returns
 returns g c =
-    let size = g.O.Order.size in
-    let peak = g.O.Order.peak in
+    let size = g.O.Order.COUNT in
+    let peak = g.O.Order.TOP in
     let place = c.first_place.ensures.answer in
     let tells = shape_tells size peak c.args.t.now c.args.stage in
     record {
