@@ -15,6 +15,14 @@ fn grant_obeys<O: Order>(order: &O, grant: &GrantRow) -> bool
     grant.direction != 1 || !order.at_or_below(O::TOP, grant.role)
 }
 
+// The first grant that breaks its rule, in words.
+fn first_broken<O: Order>(order: &O, grants: &[GrantRow]) -> Option<usize>
+    ensures stands { result ≡ None → Each (GrantObeys (O.below order.now) O.TOP) grant0 grants.now }
+    ensures first { IfSome result (FirstRow (GrantObeys (O.below order.now) O.TOP) grant0 grants.now) }
+{
+    grants.iter().position(|grant| !grant_obeys(order, grant))
+}
+
 // The first grant that breaks its rule.
 pub fn grant_breach<O: Order>(order: &O, grants: &[GrantRow]) -> Option<usize>
     ensures answer { result ≡ grant_breach (O.below order.now) O.TOP grants.now }
@@ -22,10 +30,5 @@ pub fn grant_breach<O: Order>(order: &O, grants: &[GrantRow]) -> Option<usize>
     ensures told { Each (GrantObeys (O.below order.now) O.TOP) grant0 grants.now → result ≡ None }
     ensures first { IfSome result (FirstRow (GrantObeys (O.below order.now) O.TOP) grant0 grants.now) }
 {
-    for i in 0..grants.len() {
-        if !grant_obeys(order, &grants[i]) {
-            return Some(i);
-        }
-    }
-    None
+    first_broken(order, grants)
 }
