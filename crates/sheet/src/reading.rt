@@ -41,7 +41,7 @@ impl<'a> Reader<'a> {
         let end = found.end;
         let line = line_of(found.kind, &self.sheet[start..end]);
         self.place = end;
-        self.frame.last_kind = found.kind.code();
+        self.frame.last_kind = u32::from(found.kind);
         Ok(Some(PlacedLine {
             line,
             place: found.place,

@@ -27,7 +27,7 @@ returns c =
     record {
       answer = ap (λ s. Ok (Some (s.0, s.1, found.place))) c.line_of-line.ensures.answer ∙ a.shows_it;
       place = a.goes_to;
-      frame = with_kind r.frame.end _ _ c.code-self.ensures.answer ∙ a.keeps;
+      frame = with_kind r.frame.end _ _ c.from-self.ensures ∙ a.keeps;
       same = refl;
       moves = w;
       small = omega arith;
