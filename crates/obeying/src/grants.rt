@@ -5,6 +5,7 @@ ghost use Rattle.scan.specs.Scan.{Each};
 ghost use Rattle.obeying.specs.Rules.{GrantObeys, FirstRow};
 ghost use Rattle.obeying.specs.Breaches.{grant_passes, grant_breach};
 
+use meaning::Direction;
 use order::Order;
 use rows::GrantRow;
 
@@ -12,7 +13,10 @@ fn grant_obeys<O: Order>(order: &O, grant: &GrantRow) -> bool
     ensures answer { result ≡ grant_passes (O.below order.now) O.TOP grant.now }
     ensures says { Decides result (GrantObeys (O.below order.now) O.TOP grant.now) }
 {
-    grant.direction != 1 || !order.at_or_below(O::TOP, grant.role)
+    match Direction::try_from(grant.direction) {
+        Ok(Direction::Disable) => !order.at_or_below(O::TOP, grant.role),
+        _ => true,
+    }
 }
 
 // The first grant that breaks its rule, in words.

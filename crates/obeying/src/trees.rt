@@ -1,9 +1,11 @@
 // Trees: which sets may lie under which, and which scripts.
-ghost use Rattle.std.specs.Prelude.{◌≡◌, ℕ, ◌<◌, length, IfSome, None, Decides, MatchOption};
+ghost use Rattle.std.specs.Prelude.{◌≡◌, ℕ, ◌<◌, ◌&&◌, ◌==◌, nat_lt, slice_index_or, length, IfSome, None, Decides, MatchOption};
+ghost use Rattle.layout.specs.Zeros.{job0};
 ghost use Rattle.order.specs.RoleSets.{SetBelow};
 ghost use Rattle.obeying.specs.Rules.{line, Above, ScriptObeys, TreeObeys, Asks, number_of, LowestBroken, FirstBroken};
 ghost use Rattle.obeying.specs.Breaches.{edge_above, line_below, script_passes, line_breach, tree_breach};
 
+use meaning::ContentKind;
 use order::{Order, RoleSet, set_below};
 use rows::{JobRow, TreeLine};
 
@@ -72,15 +74,24 @@ impl<O: Order> Policy<'_, O> {
         }
     }
 
+    // Whether the job is there, and of the policy.
+    fn has_job(&self, job: usize) -> bool
+        ensures answer { result ≡ (nat_lt job (length self.now.jobs.now) && (slice_index_or self.now.jobs.now job job0).policy == self.now.number) }
+    {
+        match self.jobs.get(job) {
+            Some(job) => job.policy == self.number,
+            None => false,
+        }
+    }
+
     fn script_obeys(&self, line: TreeLine) -> bool
         ensures answer { result ≡ script_passes self.now.jobs.now self.now.number line }
         ensures says { Decides result (ScriptObeys self.now.jobs.now self.now.number line) }
     {
-        line.content != 2
-            || match self.jobs.get(line.first as usize) {
-                Some(job) => job.policy == self.number,
-                None => false,
-            }
+        match ContentKind::try_from(line.content) {
+            Ok(ContentKind::Script) => self.has_job(line.first as usize),
+            _ => true,
+        }
     }
 
     // The lowest rule that the line of this row breaks.
