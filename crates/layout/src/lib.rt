@@ -6,7 +6,7 @@ mod memory;
 mod sizing;
 mod zeroed;
 
-pub use held::Table;
+pub use held::{NoRoom, Table};
 pub use memory::{RunningRow, Shelf, Slot, Tables};
 pub use sizing::sized;
 pub use zeroed::blank;
