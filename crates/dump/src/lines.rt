@@ -7,7 +7,7 @@ ghost use Rattle.layout.specs.Network.{network};
 ghost use Rattle.dump.specs.Dumping.{row_line, row_text, slot_text, slots_text, running_line, running_text, shelf_text, shelved_line, shelf_line_text};
 
 use super::field::FieldTexts;
-use super::finding::{edge_at, row_at, shelved_at};
+use super::finding::{edge_at, shelved_at};
 use super::listed::Fields;
 use layout::{RunningRow, Slot, Table, Tables};
 use rows::TreeLine;
@@ -42,7 +42,7 @@ fn table_line<R: Fields, const N: usize>(
 ) -> Result<Option<String>, AllocError>
     ensures answer { IfOk result (λ o. option_map string_bytes o ≡ option_map (row_line R.listed table row) (slice_get (in_use rows.now) row)) }
 {
-    found_line(heap, table, row, row_at(rows.count, &rows.rows, row))
+    found_line(heap, table, row, rows.in_use().get(row).copied())
 }
 
 // The line of the row, if it is in use; edges are counted over all locations. Want of memory is the only error.
@@ -69,7 +69,7 @@ pub fn row_text(
 }
 
 // A slot by its number, if it is filled.
-#[derive(Clone, Copy)]
+#[derive(Clone, Copy, Debug)]
 struct SlotText {
     number: usize,
     slot: Slot,
@@ -89,7 +89,7 @@ impl fmt::Display for SlotText {
 }
 
 // The filled slots of a running job.
-#[derive(Clone, Copy)]
+#[derive(Clone, Copy, Debug)]
 struct SlotTexts<'a>(&'a [Slot]);
 
 impl fmt::Display for SlotTexts<'_> {
@@ -97,14 +97,11 @@ impl fmt::Display for SlotTexts<'_> {
 
     fn fmt<W: fmt::Write>(&self, f: &mut fmt::Formatter<W>) -> fmt::Result {
         for (number, slot) in self.0.iter().enumerate() {
-            write!(
-                f,
-                "{}",
-                SlotText {
-                    number,
-                    slot: *slot
-                }
-            )?;
+            let text = SlotText {
+                number,
+                slot: *slot,
+            };
+            write!(f, "{text}")?;
         }
         Ok(())
     }
@@ -129,7 +126,11 @@ pub fn running_text(
 ) -> Result<Option<String>, AllocError>
     ensures answer { IfOk result (λ o. option_map string_bytes o ≡ running_text (network tables.now) position) }
 {
-    row_at(tables.running.count, &tables.running.rows, position)
+    tables
+        .running
+        .in_use()
+        .get(position)
+        .copied()
         .map(|job| running_line(heap, position, job))
         .transpose()
 }
@@ -138,7 +139,11 @@ pub fn running_text(
 pub fn shelf_text(heap: Global, tables: &Tables, tree: usize) -> Result<Option<String>, AllocError>
     ensures answer { IfOk result (λ o. option_map string_bytes o ≡ shelf_text (in_use tables.now.shelf.trees) tree) }
 {
-    row_at(tables.shelf.trees.count, &tables.shelf.trees.rows, tree)
+    tables
+        .shelf
+        .trees
+        .in_use()
+        .get(tree)
         .map(|lines| format!(in heap; "shelf {tree}: {lines}"))
         .transpose()
 }
@@ -162,14 +167,7 @@ pub fn shelf_line_text(
 ) -> Result<Option<String>, AllocError>
     ensures answer { IfOk result (λ o. option_map string_bytes o ≡ shelf_line_text (network tables.now) tree line) }
 {
-    let shelf = &tables.shelf;
-    shelved_at(
-        shelf.trees.count,
-        &shelf.trees.rows,
-        &shelf.lines,
-        tree,
-        line,
-    )
-    .map(|row| shelved_line(heap, tree, line, row))
-    .transpose()
+    shelved_at(&tables.shelf, tree, line)
+        .map(|row| shelved_line(heap, tree, line, row))
+        .transpose()
 }
