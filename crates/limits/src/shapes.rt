@@ -4,7 +4,7 @@ use super::sheets::{numbers_of, parts, written};
 use super::tells::tell_place;
 use layout::Tables;
 use order::Order;
-use poke::poke;
+use poke::{Poke, poke};
 use shape::Stage;
 use std::io;
 use tables::{Blank, load};
@@ -76,10 +76,13 @@ fn write_one(rt: &HostRuntime, tables: &mut Tables, text: &str) -> io::Result<bo
     if numbers.len() != 4 {
         return Ok(numbers.is_empty());
     }
-    let table = narrow(numbers[0]);
-    let row = narrow(numbers[1]);
-    let field = narrow(numbers[2]);
-    Ok(poke(tables, table, row, field, numbers[3]).is_ok())
+    let change = Poke {
+        table: narrow(numbers[0]),
+        row: narrow(numbers[1]),
+        field: narrow(numbers[2]),
+        value: numbers[3],
+    };
+    Ok(poke(tables, change).is_ok())
 }
 
 // Whether all of the numbers were written.

@@ -1,2 +1,2 @@
-pub mod Refused
-pub mod Rows
+pub mod Counted
+pub mod Numbers

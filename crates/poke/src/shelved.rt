@@ -1,15 +1,16 @@
 // One number of the shelf is written over.
-ghost use Rattle.std.specs.Prelude.{◌≡◌};
+ghost use Rattle.std.specs.Prelude.{◌≡◌, OnErr};
 ghost use Rattle.poke.specs.Poking.{told, after, lengths_with, shelved_with, shelf_with};
 
 use super::cells::Cells;
-use super::table::COUNT;
+use super::poking::{Poke, Row};
 use super::wrong::Wrong;
 use layout::Shelf;
 
 fn poke_lengths(shelf: &mut Shelf, field: u32, value: u64) -> Result<(), Wrong>
     ensures answer { result ≡ told (lengths_with shelf.old field value) }
     ensures after { shelf.new ≡ after shelf.old (lengths_with shelf.old field value) }
+    ensures same { OnErr result (shelf.new ≡ shelf.old) }
 {
     if field == 0 {
         shelf.trees.count = value as usize;
@@ -23,11 +24,11 @@ fn poke_lengths(shelf: &mut Shelf, field: u32, value: u64) -> Result<(), Wrong>
     Ok(())
 }
 
-fn poke_shelved(shelf: &mut Shelf, row: u32, field: u32, value: u64) -> Result<(), Wrong>
-    ensures answer { result ≡ told (shelved_with shelf.old row field value) }
-    ensures after { shelf.new ≡ after shelf.old (shelved_with shelf.old row field value) }
+fn poke_shelved(shelf: &mut Shelf, at: usize, field: u32, value: u64) -> Result<(), Wrong>
+    ensures answer { result ≡ told (shelved_with shelf.old at field value) }
+    ensures after { shelf.new ≡ after shelf.old (shelved_with shelf.old at field value) }
+    ensures same { OnErr result (shelf.new ≡ shelf.old) }
 {
-    let at = row as usize;
     if at >= 1024 {
         return Err(Wrong::Row);
     }
@@ -35,13 +36,13 @@ fn poke_shelved(shelf: &mut Shelf, row: u32, field: u32, value: u64) -> Result<(
     Ok(())
 }
 
-pub(crate) fn poke_shelf(shelf: &mut Shelf, row: u32, field: u32, value: u64) -> Result<(), Wrong>
-    ensures answer { result ≡ told (shelf_with shelf.old row field value) }
-    ensures after { shelf.new ≡ after shelf.old (shelf_with shelf.old row field value) }
+pub(crate) fn poke_shelf(shelf: &mut Shelf, poke: Poke) -> Result<(), Wrong>
+    ensures answer { result ≡ told (shelf_with shelf.old poke.row poke.field poke.value) }
+    ensures after { shelf.new ≡ after shelf.old (shelf_with shelf.old poke.row poke.field poke.value) }
+    ensures same { OnErr result (shelf.new ≡ shelf.old) }
 {
-    if row == COUNT {
-        poke_lengths(shelf, field, value)
-    } else {
-        poke_shelved(shelf, row, field, value)
+    match Row::from(poke.row) {
+        Row::Count => poke_lengths(shelf, poke.field, poke.value),
+        Row::At(at) => poke_shelved(shelf, at, poke.field, poke.value),
     }
 }
