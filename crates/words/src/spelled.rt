@@ -54,7 +54,7 @@ pub(crate) fn role_set(word: &[u8]) -> Option<u64>
     ensures answer { result ≡ role_set word.now }
 {
     match word {
-        [b'{', .., b'}'] => roles(&word[1..word.len() - 1]),
+        [b'{', inner @ .., b'}'] => roles(inner),
         _ => None,
     }
 }
