@@ -7,14 +7,14 @@ use rows::{
 };
 
 // What a slot of a running job holds: the row of the pattern that filled it and 1, or 0 for none; and the value.
-#[derive(Clone, Copy)]
+#[derive(Clone, Copy, Debug, Default, PartialEq, Eq)]
 pub struct Slot {
     pub pattern: u32,
     pub value: u32,
 }
 
 // A running job: where it is, in which roles, its next command (counted from 1), and its slots.
-#[derive(Clone, Copy)]
+#[derive(Clone, Copy, Debug, PartialEq, Eq)]
 pub struct RunningRow {
     pub location: u32,
     pub roles: RoleSet,
@@ -23,13 +23,13 @@ pub struct RunningRow {
 }
 
 // Copied trees: how many lines each has, and all lines one after the other.
-#[derive(Clone, Copy)]
+#[derive(Clone, Copy, Debug, PartialEq, Eq)]
 pub struct Shelf {
     pub trees: Table<usize, 64>,
     pub lines: [TreeLine; 1024],
 }
 
-#[derive(Drop)]
+#[derive(Debug, PartialEq, Eq, Drop)]
 pub struct Tables {
     pub policies: Table<PolicyRow, 16>,
     pub grants: Table<GrantRow, 64>,

@@ -24,8 +24,8 @@ fn forest(trees: &[Table<TreeLine, 128>; 16])
     ensures long { length trees.now ≡ 16 }
     ensures each { (k : ℕ) → k < 16 → length (slice_index_or trees.now k no_tree).rows ≡ 128 }
 {
-    for l in 0..16 {
-        table(&trees[l]);
+    for tree in trees {
+        table(tree);
     }
 }
 
@@ -39,8 +39,8 @@ fn running(jobs: &[RunningRow; 64])
     ensures long { length jobs.now ≡ 64 }
     ensures each { (k : ℕ) → k < 64 → length (slice_index_or jobs.now k no_running).slots ≡ 6 }
 {
-    for k in 0..64 {
-        slots(&jobs[k]);
+    for job in jobs {
+        slots(job);
     }
 }
 

@@ -33,7 +33,7 @@ fn text_of(heap: Global, line: usize, placed: PlacedLine<'_>) -> Result<String, 
 {
     let kind = placed.line.kind();
     let fields = fields_of(heap, placed.line)?;
-    listed_line(heap, line, placed.place, kind.code(), fields.as_slice())
+    listed_line(heap, line, placed.place, u32::from(kind), fields.as_slice())
 }
 
 impl<'a> Listing<'a> {

@@ -1,66 +1,71 @@
 -- What a turn of the reading loop keeps, and what each way out of it answers.
-use Rattle.std.proofs.Common.{◌≡◌, ℕ, ◌+◌, ◌-◌, ◌*◌, ◌/◌, ◌^◌, ◌<◌, ◌≤◌, List, ◌∷◌, length, get_or, drop, sym, ◌∙◌, subst, arith, pow-add}
+use Rattle.std.proofs.Common.{◌≡◌, ℕ, ◌+◌, ◌-◌, ◌*◌, ◌/◌, ◌%◌, ◌^◌, ◌<◌, ◌≤◌, List, ◌∷◌, length, get_or, drop, sym, ap, ◌∙◌, inl, inr, arith, mul_comm, mul-le-mul_left, pow_mono, pow-add}
 use Rattle.std.proofs.lemmas.Nat.{pow_pos}
 use Rattle.std.proofs.lemmas.List.{at_drop_more, at_drop_all}
+use Rattle.std.proofs.Math.Nat.{mod-eq_of_lt}
+use Rattle.std.specs.Prelude.{◌⊎◌}
 use Rattle.number.specs.declared.fault.Cause.TheVariants.{Ends, TooLarge}
 use Rattle.number.specs.Spelling.{found, fault_at, read_number}
 use Rattle.number.proofs.Groups.{coming, fits, less_high, shift_small, coming-large, coming-zero, coming-last, coming-more, coming-none}
 
--- the groups so far make `value`, and what is coming stands at `scale`
-abbrev pub SoFar : (limit at : ℕ) (bytes : List ℕ) (value scale shift place : ℕ) → Type 0
-SoFar limit at bytes value scale shift place =
-    (scale ≡ 2 ^ shift)
-    × (shift < 64)
-    × (value ≤ limit)
-    × (at ≤ place)
-    × (coming limit scale value place (drop place bytes) ≡ read_number limit at bytes)
+-- the groups so far make `value`, and the bytes that are left stand at the scale of the next
+pub record SoFar (limit at : ℕ) (bytes rest : List ℕ) (value groups : ℕ) : Type 0 where
+  pub shift : 7 * groups < 64
+  pub within : value ≤ limit
+  pub left : coming limit (2 ^ (7 * groups)) value (at + groups) (drop groups rest) ≡ read_number limit at bytes
 
-module _ (limit at : ℕ) (bytes : List ℕ) (value scale shift place : ℕ) (so_far : SoFar limit at bytes value scale shift place) where
-  pub positive : 0 < scale
-  positive = omega (arith, so_far.0, pow_pos shift)
+pub at-end : (limit at : ℕ) (bytes rest : List ℕ) (value groups : ℕ) → SoFar limit at bytes rest value groups → length rest ≤ groups
+    → fault_at Ends (at + groups) ≡ read_number limit at bytes
+at-end limit at bytes rest value groups so_far h =
+    let scale = 2 ^ (7 * groups) in
+    sym (at_drop_all (coming limit scale value (at + groups)) rest groups h ∙ coming-none limit scale value (at + groups)) ∙ so_far.left
 
-  pub at-end : length bytes ≤ place → fault_at Ends place ≡ read_number limit at bytes
-  at-end h =
-      sym (at_drop_all (coming limit scale value place) bytes place h ∙ coming-none limit scale value place) ∙ so_far.4
+module _ (limit at : ℕ) (bytes rest : List ℕ) (value groups : ℕ) (so_far : SoFar limit at bytes rest value groups) (here : groups < length rest) (b : ℕ) (is : b ≡ get_or rest groups 0) where
+  opened : coming limit (2 ^ (7 * groups)) value (at + groups) (b ∷ drop (groups + 1) rest) ≡ read_number limit at bytes
+  opened =
+      let f : List ℕ → _ = coming limit (2 ^ (7 * groups)) value (at + groups) in
+      ap (λ x. f (x ∷ drop (groups + 1) rest)) is ∙ sym (at_drop_more f rest groups 0 here) ∙ so_far.left
 
-  module _ (here : place < length bytes) where
-    opened : coming limit scale value place (drop place bytes) ≡ coming limit scale value place (get_or bytes place 0 ∷ drop (place + 1) bytes)
-    opened = at_drop_more (coming limit scale value place) bytes place 0 here
+  -- a byte too large, or one byte too many
+  pub too-large : ((limit - value) / 2 ^ (7 * groups) < b) ⊎ ((b ≡ 0) × (0 < groups)) → fault_at TooLarge (at + groups) ≡ read_number limit at bytes
+  too-large (inl large) = sym (coming-large limit (2 ^ (7 * groups)) value (at + groups) b (drop (groups + 1) rest) large) ∙ opened
+  too-large (inr zero) =
+      let more : 2 ^ 7 ≤ 2 ^ (7 * groups) =
+      let one : 7 ≤ 7 * groups = omega (arith, zero.1) in pow_mono one in
+      sym (coming-zero limit (2 ^ (7 * groups)) value (at + groups) b (drop (groups + 1) rest) (omega (arith, zero.0)) zero.0 (omega arith)) ∙ opened
 
-    pub at-large : (limit - value) / 2 ^ shift < get_or bytes place 0 → fault_at TooLarge place ≡ read_number limit at bytes
-    at-large h =
-        sym (opened ∙ coming-large limit scale value place (get_or bytes place 0) (drop (place + 1) bytes)
-        (subst (λ n. (limit - value) / n < get_or bytes place 0) (sym so_far.0) h))
-        ∙ so_far.4
+  module _ (allowed : b ≤ (limit - value) / 2 ^ (7 * groups)) (narrow : limit < 2 ^ 64) where
+    pub fit : value + 2 ^ (7 * groups) * b ≤ limit
+    fit = fits limit value (2 ^ (7 * groups)) b so_far.within allowed
 
-    module _ (left : get_or bytes place 0 ≤ (limit - value) / 2 ^ shift) where
-      allowed : get_or bytes place 0 ≤ (limit - value) / scale
-      allowed = subst (λ n. get_or bytes place 0 ≤ (limit - value) / n) (sym so_far.0) left
+    -- no bit of the byte is shifted out
+    pub shifted : (n : ℕ) → n ≤ b → n * 2 ^ (7 * groups) % 2 ^ 64 ≡ 2 ^ (7 * groups) * n
+    shifted n h =
+        let e : n * 2 ^ (7 * groups) ≡ 2 ^ (7 * groups) * n = mul_comm n (2 ^ (7 * groups)) in
+        let m : 2 ^ (7 * groups) * n ≤ 2 ^ (7 * groups) * b = mul-le-mul_left (2 ^ (7 * groups)) h in
+        mod-eq_of_lt (omega (arith, fit)) ∙ e
 
-      pub fit : value + scale * get_or bytes place 0 ≤ limit
-      fit = fits limit value scale (get_or bytes place 0) so_far.2 allowed
+    pub at_last : b < 128 → (b ≡ 0 → groups ≤ 0) → found (value + b * 2 ^ (7 * groups) % 2 ^ 64) (at + groups + 1) ≡ read_number limit at bytes
+    at_last low some =
+        let one : b ≡ 0 → 2 ^ (7 * groups) ≤ 1 = λ z. let none : 7 * groups ≡ 0 = omega (arith, some z) in omega (arith, ap (λ n. 2 ^ n) none) in
+        ap (λ v. found (value + v) (at + groups + 1)) (shifted b (omega arith))
+        ∙ sym (coming-last limit (2 ^ (7 * groups)) value (at + groups) b (drop (groups + 1) rest) allowed low one (pow_pos (7 * groups)))
+        ∙ opened
 
-      pub at_zero : get_or bytes place 0 ≡ 0 → 1 < scale → fault_at TooLarge place ≡ read_number limit at bytes
-      at_zero z more =
-          sym (opened ∙ coming-zero limit scale value place (get_or bytes place 0) (drop (place + 1) bytes) allowed z more) ∙ so_far.4
+    module _ (high : 128 ≤ b) where
+      more_fit : value + 2 ^ (7 * groups) * (b - 128) + 2 ^ (7 * groups) * 128 ≤ limit
+      more_fit = omega (arith, fit, less_high (2 ^ (7 * groups)) b high)
 
-      pub at_last : get_or bytes place 0 < 128 → (get_or bytes place 0 ≡ 0 → scale ≤ 1)
-          → found (value + scale * get_or bytes place 0) (place + 1) ≡ read_number limit at bytes
-      at_last low some =
-          sym (opened ∙ coming-last limit scale value place (get_or bytes place 0) (drop (place + 1) bytes) allowed low some positive) ∙ so_far.4
-
-      module _ (high : 128 ≤ get_or bytes place 0) where
-        pub high_fit : value + scale * (get_or bytes place 0 - 128) + scale * 128 ≤ limit
-        high_fit = omega (arith, fit, less_high scale (get_or bytes place 0) high)
-
-        pub next_turn : limit < 2 ^ 64
-            → SoFar limit at bytes (value + scale * (get_or bytes place 0 - 128)) (scale * 128) (shift + 7) (place + 1)
-        next_turn width =
-            let power : 2 ^ (shift + 7) ≡ 2 ^ shift * 2 ^ 7 = pow-add 2 shift 7 in
-            let small : shift + 7 < 64 = shift_small shift (omega (arith, high_fit, so_far.0)) in (
-              omega (arith, so_far.0),
-              small,
-              omega (arith, high_fit),
-              omega (arith, so_far.3),
-              sym (opened ∙ coming-more limit scale value place (get_or bytes place 0) (drop (place + 1) bytes) allowed high positive so_far.2) ∙ so_far.4,
-            )
+      pub next_turn : SoFar limit at bytes rest (value + (b - 128) * 2 ^ (7 * groups) % 2 ^ 64) (groups + 1)
+      next_turn =
+          let seven : 7 * groups + 7 ≡ 7 * (groups + 1) = omega arith in
+          let power : 2 ^ (7 * groups + 7) ≡ 2 ^ (7 * groups) * 2 ^ 7 = pow-add 2 (7 * groups) 7 in
+          let scale : 2 ^ (7 * groups) * 128 ≡ 2 ^ (7 * (groups + 1)) = sym power ∙ ap (λ n. 2 ^ n) seven in
+          let value_is : value + (b - 128) * 2 ^ (7 * groups) % 2 ^ 64 ≡ value + 2 ^ (7 * groups) * (b - 128) = ap (λ v. value + v) (shifted (b - 128) (omega arith)) in
+          let place : at + groups + 1 ≡ at + (groups + 1) = omega arith in
+          let turn = sym (coming-more limit (2 ^ (7 * groups)) value (at + groups) b (drop (groups + 1) rest) allowed high (pow_pos (7 * groups)) so_far.within) ∙ opened in
+          record {
+            shift = omega (arith, shift_small (7 * groups) (omega (arith, more_fit)));
+            within = omega (arith, more_fit);
+            left = (λ i. coming limit (sym scale i) (value_is i) (sym place i) (drop (groups + 1) rest)) ∙ turn;
+          }

@@ -1,8 +1,11 @@
 // Why a sheet cannot be read on.
-ghost use Rattle.std.specs.Prelude.{◌≡◌};
-ghost use Rattle.number.specs.Faults.{number_of, refusal};
+ghost use Rattle.std.specs.Prelude.{◌≡◌, Some};
+ghost use Rattle.number.specs.Faults.{number_of, refusal, cause_words, fault_words};
 
-#[derive(Clone, Copy)]
+use std::error::Error;
+use std::fmt;
+
+#[derive(Clone, Copy, Debug, PartialEq, Eq)]
 pub enum Cause {
     // The sheet ends inside a line.
     Ends,
@@ -13,10 +16,19 @@ pub enum Cause {
 }
 
 // The cause, and the byte that settles it; where the sheet ends, its length.
-#[derive(Clone, Copy)]
+#[derive(Clone, Copy, Debug, PartialEq, Eq)]
 pub struct ReadFault {
     pub cause: Cause,
     pub byte: usize,
+}
+
+impl Cause {
+    // The fault that this cause makes at the byte.
+    pub(crate) fn at(self, byte: usize) -> ReadFault
+        ensures answer { result ≡ record { cause = self; byte = byte } }
+    {
+        ReadFault { cause: self, byte }
+    }
 }
 
 impl ReadFault {
@@ -31,3 +43,25 @@ impl ReadFault {
         }
     }
 }
+
+impl fmt::Display for Cause {
+    ghost output = { λ cause. Some (cause_words cause) };
+
+    fn fmt<W: fmt::Write>(&self, f: &mut fmt::Formatter<W>) -> fmt::Result {
+        f.write_str(match self {
+            Cause::Ends => "the sheet ends inside a line",
+            Cause::TooLarge => "a number is too long or too large, or not in the fewest bytes",
+            Cause::UnknownKind => "unknown kind",
+        })
+    }
+}
+
+impl fmt::Display for ReadFault {
+    ghost output = { λ fault. Some (fault_words fault) };
+
+    fn fmt<W: fmt::Write>(&self, f: &mut fmt::Formatter<W>) -> fmt::Result {
+        write!(f, "{} at byte {}", self.cause, self.byte)
+    }
+}
+
+impl Error for ReadFault {}

@@ -1,19 +1,19 @@
 // Reads a number, group by group.
-ghost use Rattle.std.specs.Prelude.{◌≡◌, ◌<◌, ◌≤◌, length, IfOk};
+ghost use Rattle.std.specs.Prelude.{◌≡◌, ◌<◌, ◌≤◌, length, drop, IfOk};
 ghost use Rattle.number.specs.Spelling.{limit_of, read_number};
 ghost use Rattle.number.specs.Laws.{OneSpelling};
 
 use super::fault::{Cause, ReadFault};
 
 // How large a number may be: 32 bits or 64.
-#[derive(Clone, Copy)]
+#[derive(Clone, Copy, Debug, PartialEq, Eq)]
 pub enum Width {
     Narrow,
     Wide,
 }
 
 // A number that was read, and where the bytes behind it begin.
-#[derive(Clone, Copy)]
+#[derive(Clone, Copy, Debug, PartialEq, Eq)]
 pub struct Number {
     pub value: u64,
     pub next: usize,
@@ -30,44 +30,36 @@ impl Width {
     }
 }
 
-// The loop behind `read_number`, at any limit. `scale` is 2 to the power `shift`.
+// The bytes from the place on; none behind the end.
+fn bytes_from(bytes: &[u8], at: usize) -> &[u8]
+    ensures answer { result.now ≡ drop at bytes.now }
+{
+    bytes.get(at..).unwrap_or(&[])
+}
+
+// The loop behind `read_number`, at any limit.
 fn read_within(bytes: &[u8], at: usize, limit: u64) -> Result<Number, ReadFault>
     ensures answer { result ≡ read_number limit at bytes.now }
     ensures within { IfOk result (λ n. (at < n.next) × (n.next ≤ length bytes.now) × (n.value ≤ limit)) }
 {
+    let rest = bytes_from(bytes, at);
     let mut value: u64 = 0;
-    let mut scale: u64 = 1;
-    let mut shift: u32 = 0;
-    let mut place = at;
-    while place < bytes.len() {
-        let digit = bytes[place] as u64;
-        if digit > (limit - value) >> shift {
-            return Err(ReadFault {
-                cause: Cause::TooLarge,
-                byte: place,
-            });
+    for (groups, &byte) in rest.iter().enumerate() {
+        let digit = u64::from(byte);
+        let shift = 7 * groups;
+        let place = at + groups;
+        if digit > (limit - value) >> shift || digit == 0 && groups > 0 {
+            return Err(Cause::TooLarge.at(place));
         }
         if digit < 128 {
-            if digit == 0 && scale > 1 {
-                return Err(ReadFault {
-                    cause: Cause::TooLarge,
-                    byte: place,
-                });
-            }
             return Ok(Number {
-                value: value + scale * digit,
+                value: value + (digit << shift),
                 next: place + 1,
             });
         }
-        value += scale * (digit - 128);
-        scale *= 128;
-        shift += 7;
-        place += 1;
+        value += (digit - 128) << shift;
     }
-    Err(ReadFault {
-        cause: Cause::Ends,
-        byte: place,
-    })
+    Err(Cause::Ends.at(at + rest.len()))
 }
 
 // The number of the width that stands at the place, or the fault at the byte that settles it.

@@ -24,24 +24,30 @@ pub trait Judged<Names> {
         ensures after { before.new ≡ after before.old self.now };
 }
 
-// The first row that does not pass, where the rows before these leave `before` to be known.
-fn first_behind<Names, T: Judged<Names>>(
-    names: &Names,
-    rows: &[T],
-    mut before: T::Before,
-) -> Option<usize>
-where
-    T::Before: Drop,
-    ensures answer { result ≡ scan (λ b i x. T.passes names.now b i x) T.after before 0 rows.now }
-    ensures inside { IfSome result (λ i. i < length rows.now) }
-{
-    for (i, row) in rows.iter().enumerate() {
-        if !row.passes(names, &before, i) {
-            return Some(i);
-        }
-        row.note(&mut before);
+// A row that asks nothing of the rows before.
+pub trait Stands<Names> {
+    ghost stands: { Names → ℕ → Self → Bool };
+
+    fn stands(&self, names: &Names, row: usize) -> bool
+        ensures answer { result ≡ stands names.now row self.now };
+}
+
+impl<Names, T: Stands<Names>> Judged<Names> for T {
+    type Before = ();
+
+    ghost first = { tt };
+
+    ghost passes = { λ names before row x. T.stands names row x };
+
+    ghost after = { λ before x. before };
+
+    fn before_all() -> () {}
+
+    fn passes(&self, names: &Names, _before: &(), row: usize) -> bool {
+        self.stands(names, row)
     }
-    None
+
+    fn note(&self, _before: &mut ()) {}
 }
 
 // The first row that does not pass.
@@ -51,5 +57,12 @@ where
     ensures answer { result ≡ scan (λ b i x. T.passes names.now b i x) T.after T.first 0 rows.now }
     ensures inside { IfSome result (λ i. i < length rows.now) }
 {
-    first_behind(names, rows, T::before_all())
+    let mut before = T::before_all();
+    for (i, row) in rows.iter().enumerate() {
+        if !row.passes(names, &before, i) {
+            return Some(i);
+        }
+        row.note(&mut before);
+    }
+    None
 }

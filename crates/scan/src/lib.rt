@@ -3,4 +3,4 @@
 
 mod judging;
 
-pub use judging::{Judged, first_fault};
+pub use judging::{Judged, Stands, first_fault};

@@ -1,10 +1,13 @@
 -- The nine kinds of lines: their numbers, and the widths of their fields.
-use Rattle.std.specs.Prelude.{ℕ, cond, List, [], ◌∷◌, Some, None, Option, ◌==◌}
+use Rattle.std.specs.Prelude.{◌≡◌, ℕ, cond, List, [], ◌∷◌, ◌++◌, Some, None, Ok, Err, Option, Result, ◌==◌, codes}
+use Rattle.std.specs.Fmt.{decimal}
 use Rattle.number.specs.declared.reading.Width.{Width}
 use Rattle.number.specs.declared.reading.Width.TheVariants.{Narrow, Wide}
 use Rattle.sheet.specs.declared.kinds.LineKind.{LineKind}
+use Rattle.sheet.specs.declared.kinds.UnknownKind.{UnknownKind}
 use Rattle.sheet.specs.declared.kinds.LineKind.TheVariants.{Policy, Grant, Location, PathStep, Edge, TemplateLine, Pattern, Command, Job}
 
+-- the number of a kind
 abbrev pub code_of : LineKind → ℕ
 code_of Policy = 1
 code_of Grant = 2
@@ -28,6 +31,15 @@ kind_of n =
     (cond (n == 7) (Some Pattern)
     (cond (n == 8) (Some Command)
     (cond (n == 9) (Some Job) None))))))))
+
+-- the answer is the kind of the number, or the number itself where no kind has it
+abbrev pub TellsKind : ℕ → Result LineKind UnknownKind → Type 0
+TellsKind n (Ok kind) = kind_of n ≡ Some kind
+TellsKind n (Err unknown) = (kind_of n ≡ None) × (unknown.0 ≡ n)
+
+-- a number that no kind has, in words
+abbrev pub unknown_words : UnknownKind → List ℕ
+unknown_words unknown = codes "no kind of line has number " ++ decimal unknown.0
 
 -- the fields of a line, in their order: role sets and a command's `first` are wide, all others narrow
 abbrev pub widths : LineKind → List Width

@@ -10,7 +10,6 @@ use Rattle.sheet.specs.declared.line.Line.{Line}
 use Rattle.sheet.specs.declared.line.Line.TheVariants as line
 use Rattle.sheet.specs.declared.line.PlacedLine.{PlacedLine}
 use Rattle.sheet.specs.Fields.{read_line, stretch}
-use Rattle.sheet.specs.Kinds.{code_of}
 
 -- a line as it shows itself: its kind, and the bytes of its fields
 abbrev pub shows : Line → LineKind × List ℕ
@@ -48,7 +47,7 @@ place_after place (Err e) = place
 
 abbrev pub frame_after : Frame → Result (Option Found) ReadFault → Frame
 frame_after frame (Ok None) = frame
-frame_after frame (Ok (Some f)) = record { end = frame.end; last_kind = code_of f.kind }
+frame_after frame (Ok (Some f)) = record { end = frame.end; last_kind = Some f.kind }
 frame_after frame (Err e) = frame
 
 -- the place only moves forward

@@ -2,11 +2,11 @@
 ghost use Rattle.std.specs.Prelude.{◌≡◌, ◌<◌, ◌≤◌, length, IfSome, IfOk};
 ghost use Rattle.sheet.specs.Fields.{fields_end, read_line};
 
-use super::kinds::{LineKind, kind_of};
+use super::kinds::LineKind;
 use number::{Cause, ReadFault, Width, read_number};
 
 // A line of a sheet: its kind, the place of its first byte, and where its fields begin and end.
-#[derive(Clone, Copy)]
+#[derive(Clone, Copy, Debug, PartialEq, Eq)]
 pub struct Found {
     pub kind: LineKind,
     pub place: usize,
@@ -36,12 +36,10 @@ pub(crate) fn find_line(bytes: &[u8], place: usize) -> Result<Option<Found>, Rea
         return Ok(None);
     }
     let code = read_number(bytes, place, Width::Narrow)?;
-    let Some(kind) = kind_of(code.value) else {
-        return Err(ReadFault {
-            cause: Cause::UnknownKind,
-            byte: code.next - 1,
-        });
-    };
+    let kind = LineKind::try_from(code.value).map_err(|_| ReadFault {
+        cause: Cause::UnknownKind,
+        byte: code.next - 1,
+    })?;
     let start = code.next;
     let end = skip_fields(bytes, start, kind.widths())?;
     Ok(Some(Found {

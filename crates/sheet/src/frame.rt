@@ -1,11 +1,13 @@
 // The reader. Its bounds are ghost fields, so that no method has to ask for them.
 ghost use Rattle.std.specs.Prelude.{◌≡◌, ◌≤◌, length};
 
-// How far the reader may go, and the kind of the last line that it handed out (0 before the first).
-#[derive(Clone, Copy)]
+use super::kinds::LineKind;
+
+// How far the reader may go, and the kind of the last line that it handed out; none before the first.
+#[derive(Clone, Copy, Debug, PartialEq, Eq)]
 pub struct Frame {
     pub end: usize,
-    pub last_kind: u32,
+    pub last_kind: Option<LineKind>,
 }
 
 #[derive(Drop)]
@@ -18,8 +20,8 @@ pub struct Reader<'a> {
 }
 
 impl Reader<'_> {
-    // The kind of the last line that was handed out, 0 before the first.
-    pub fn last_kind(&self) -> u32
+    // The kind of the last line that was handed out; none before the first.
+    pub fn last_kind(&self) -> Option<LineKind>
         ensures answer { result ≡ self.now.frame.last_kind }
     {
         self.frame.last_kind

@@ -1,11 +1,13 @@
 // The kinds of lines.
-ghost use Rattle.std.specs.Prelude.{◌≡◌};
-ghost use Rattle.sheet.specs.Kinds.{kind_of, code_of, widths};
+ghost use Rattle.std.specs.Prelude.{◌≡◌, Some};
+ghost use Rattle.sheet.specs.Kinds.{TellsKind, code_of, unknown_words, widths};
 
 use number::Width;
 use number::Width::{Narrow, Wide};
+use std::error::Error;
+use std::fmt;
 
-#[derive(Clone, Copy)]
+#[derive(Clone, Copy, Debug, PartialEq, Eq, PartialOrd, Ord)]
 pub enum LineKind {
     Policy,
     Grant,
@@ -18,29 +20,38 @@ pub enum LineKind {
     Job,
 }
 
-pub(crate) fn kind_of(code: u64) -> Option<LineKind>
-    ensures answer { result ≡ kind_of code }
-{
-    match code {
-        1 => Some(LineKind::Policy),
-        2 => Some(LineKind::Grant),
-        3 => Some(LineKind::Location),
-        4 => Some(LineKind::PathStep),
-        5 => Some(LineKind::Edge),
-        6 => Some(LineKind::TemplateLine),
-        7 => Some(LineKind::Pattern),
-        8 => Some(LineKind::Command),
-        9 => Some(LineKind::Job),
-        _ => None,
+// A number that no kind has.
+#[derive(Clone, Copy, Debug, PartialEq, Eq)]
+pub struct UnknownKind(pub u64);
+
+// The kind that a number stands for in a sheet.
+impl TryFrom<u64> for LineKind {
+    type Error = UnknownKind;
+
+    ghost try_from_gives = { TellsKind };
+
+    fn try_from(code: u64) -> Result<Self, UnknownKind> {
+        match code {
+            1 => Ok(LineKind::Policy),
+            2 => Ok(LineKind::Grant),
+            3 => Ok(LineKind::Location),
+            4 => Ok(LineKind::PathStep),
+            5 => Ok(LineKind::Edge),
+            6 => Ok(LineKind::TemplateLine),
+            7 => Ok(LineKind::Pattern),
+            8 => Ok(LineKind::Command),
+            9 => Ok(LineKind::Job),
+            _ => Err(UnknownKind(code)),
+        }
     }
 }
 
-impl LineKind {
-    // The kind's number in a sheet.
-    pub fn code(self) -> u32
-        ensures answer { result ≡ code_of self }
-    {
-        match self {
+// The kind's number in a sheet.
+impl From<LineKind> for u32 {
+    ghost from_gives = { λ kind code. code ≡ code_of kind };
+
+    fn from(kind: LineKind) -> u32 {
+        match kind {
             LineKind::Policy => 1,
             LineKind::Grant => 2,
             LineKind::Location => 3,
@@ -52,7 +63,19 @@ impl LineKind {
             LineKind::Job => 9,
         }
     }
+}
 
+impl fmt::Display for UnknownKind {
+    ghost output = { λ unknown. Some (unknown_words unknown) };
+
+    fn fmt<W: fmt::Write>(&self, f: &mut fmt::Formatter<W>) -> fmt::Result {
+        write!(f, "no kind of line has number {}", self.0)
+    }
+}
+
+impl Error for UnknownKind {}
+
+impl LineKind {
     // The widths of the line's fields, in their order.
     pub fn widths(self) -> &'static [Width]
         ensures answer { result.now ≡ widths self }

@@ -9,6 +9,6 @@ mod line;
 mod reading;
 
 pub use frame::{Frame, Reader};
-pub use kinds::LineKind;
+pub use kinds::{LineKind, UnknownKind};
 pub use laws::sheet_laws;
 pub use line::{Line, PlacedLine};

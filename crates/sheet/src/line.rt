@@ -4,7 +4,7 @@ ghost use Rattle.sheet.specs.Showing.{shows};
 
 use super::kinds::LineKind;
 
-#[derive(Clone, Copy)]
+#[derive(Clone, Copy, Debug, PartialEq, Eq)]
 pub enum Line<'a> {
     Policy(&'a [u8]),
     Grant(&'a [u8]),
@@ -18,7 +18,7 @@ pub enum Line<'a> {
 }
 
 // A line, and the offset of its first byte.
-#[derive(Clone, Copy)]
+#[derive(Clone, Copy, Debug, PartialEq, Eq)]
 pub struct PlacedLine<'a> {
     pub line: Line<'a>,
     pub place: usize,

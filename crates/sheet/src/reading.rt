@@ -2,7 +2,7 @@
 ghost use Rattle.std.specs.Prelude.{◌≡◌, ◌^◌, ◌<◌, length};
 ghost use Rattle.sheet.specs.Showing.{seen, shown, line_at, place_after, frame_after, Moves};
 
-use super::finding::find_line;
+use super::finding::{Found, find_line};
 use super::frame::{Frame, Reader};
 use super::line::{PlacedLine, line_of};
 use number::ReadFault;
@@ -12,14 +12,14 @@ impl<'a> Reader<'a> {
     pub fn new(sheet: &'a [u8]) -> Reader<'a>
         ensures sheet { result.sheet.now ≡ sheet.now }
         ensures place { result.place ≡ 0 }
-        ensures frame { result.frame ≡ record { end = length sheet.now; last_kind = 0 } }
+        ensures frame { result.frame ≡ record { end = length sheet.now; last_kind = None } }
     {
         Reader {
             sheet,
             place: 0,
             frame: Frame {
                 end: sheet.len(),
-                last_kind: 0,
+                last_kind: None,
             },
         }
     }
@@ -34,17 +34,18 @@ impl<'a> Reader<'a> {
         ensures small { self.new.place < 2 ^ 64 }
     {
         let until = self.frame.end;
-        let Some(found) = find_line(&self.sheet[0..until], self.place)? else {
+        let Some(found) = find_line(&self.sheet[..until], self.place)? else {
             return Ok(None);
         };
-        let start = found.start;
-        let end = found.end;
-        let line = line_of(found.kind, &self.sheet[start..end]);
+        let Found {
+            kind,
+            place,
+            start,
+            end,
+        } = found;
+        let line = line_of(kind, &self.sheet[start..end]);
         self.place = end;
-        self.frame.last_kind = found.kind.code();
-        Ok(Some(PlacedLine {
-            line,
-            place: found.place,
-        }))
+        self.frame.last_kind = Some(kind);
+        Ok(Some(PlacedLine { line, place }))
     }
 }

@@ -1,10 +1,14 @@
 // Rows that are all zero: what stands behind the last row of a table.
-ghost use Rattle.std.specs.Prelude.{◌≡◌, ◌<◌, Bool, length, drop, IfSome, ◌==◌};
+ghost use Rattle.std.specs.Prelude.{◌≡◌, ◌+◌, ◌<◌, Bool, not, position, length, drop, IfSome, ◌==◌};
+ghost use Rattle.std.proofs.Common.{rules};
 ghost use Rattle.scan.specs.Scan.{first_bad};
-ghost use Rattle.zeros.specs.Zeroed.{policy_zero, location_zero, step_zero, line_zero, template_zero, slot_zero, running_zero};
+ghost use Rattle.zeros.specs.Zeroed.{policy_zero, grant_zero, location_zero, step_zero, line_zero, template_zero, pattern_zero, command_zero, job_zero, slot_zero, running_zero};
 
 use layout::{RunningRow, Slot};
-use rows::{LocationRow, PathStepRow, PolicyRow, TemplateRow, TreeLine};
+use rows::{
+    CommandRow, GrantRow, JobRow, LocationRow, PathStepRow, PatternRow, PolicyRow, TemplateRow,
+    TreeLine,
+};
 
 // A row that can be all zero.
 pub trait Zeroed {
@@ -14,88 +18,117 @@ pub trait Zeroed {
         ensures answer { result ≡ zeroed self.now };
 }
 
+// A row that is all zero exactly where it equals its default.
+pub trait DefaultIsZero: Copy + Default + PartialEq {
+    ghost zero: { Self → Bool };
+
+    fn equals_default(&self) -> bool
+        ensures answer { result ≡ zero self.now }
+    {
+        *self == Self::default()
+    }
+
+    ghost equal: { (x d : Self) → Self.is_default d → Self.eq x d ≡ zero x };
+}
+
+impl<T: DefaultIsZero> Zeroed for T {
+    ghost zeroed = { T.zero };
+
+    fn is_zero(&self) -> bool {
+        self.equals_default()
+    }
+}
+
+// How many rows from the place on are all zero, where another follows them.
+fn zeros_before<T: Zeroed>(rows: &[T], from: usize) -> Option<usize>
+    ensures answer { result ≡ position (λ row. not (T.zeroed row)) (drop from rows.now) }
+    ensures inside { IfSome result (λ zeros. from + zeros < length rows.now) }
+{
+    rows.iter().skip(from).position(|row| !row.is_zero())
+}
+
 // The first row from the place on that is not all zero.
 pub fn first_written<T: Zeroed>(rows: &[T], from: usize) -> Option<usize>
     ensures answer { result ≡ first_bad (λ i x. T.zeroed x) from (drop from rows.now) }
     ensures inside { IfSome result (λ i. i < length rows.now) }
 {
-    for i in from..rows.len() {
-        if !rows[i].is_zero() {
-            return Some(i);
-        }
-    }
-    None
+    zeros_before(rows, from).map(|zeros| from + zeros)
 }
 
-impl Zeroed for usize {
-    ghost zeroed = { λ n. (n == 0) };
+impl DefaultIsZero for usize {
+    ghost zero = { λ n. (n == 0) };
 
-    fn is_zero(&self) -> bool {
-        *self == 0
-    }
+    ghost equal = { Prim.search rules };
 }
 
-impl Zeroed for PolicyRow {
-    ghost zeroed = { policy_zero };
+impl DefaultIsZero for PolicyRow {
+    ghost zero = { policy_zero };
 
-    fn is_zero(&self) -> bool {
-        self.least == 0
-    }
+    ghost equal = { Prim.search rules };
 }
 
-impl Zeroed for LocationRow {
-    ghost zeroed = { location_zero };
+impl DefaultIsZero for GrantRow {
+    ghost zero = { grant_zero };
 
-    fn is_zero(&self) -> bool {
-        self.policy == 0
-    }
+    ghost equal = { Prim.search rules };
 }
 
-impl Zeroed for PathStepRow {
-    ghost zeroed = { step_zero };
+impl DefaultIsZero for LocationRow {
+    ghost zero = { location_zero };
 
-    fn is_zero(&self) -> bool {
-        self.path == 0 && self.label == 0 && self.set == 0
-    }
+    ghost equal = { Prim.search rules };
 }
 
-impl Zeroed for TreeLine {
-    ghost zeroed = { line_zero };
+impl DefaultIsZero for PathStepRow {
+    ghost zero = { step_zero };
 
-    fn is_zero(&self) -> bool {
-        self.depth == 0
-            && self.label == 0
-            && self.set == 0
-            && self.content == 0
-            && self.first == 0
-            && self.second == 0
-    }
+    ghost equal = { Prim.search rules };
 }
 
-impl Zeroed for TemplateRow {
-    ghost zeroed = { template_zero };
+impl DefaultIsZero for TreeLine {
+    ghost zero = { line_zero };
 
-    fn is_zero(&self) -> bool {
-        self.template == 0 && self.line.is_zero()
-    }
+    ghost equal = { Prim.search rules };
 }
 
-impl Zeroed for Slot {
-    ghost zeroed = { slot_zero };
+impl DefaultIsZero for TemplateRow {
+    ghost zero = { template_zero };
 
-    fn is_zero(&self) -> bool {
-        self.pattern == 0 && self.value == 0
-    }
+    ghost equal = { Prim.search rules };
 }
 
+impl DefaultIsZero for PatternRow {
+    ghost zero = { pattern_zero };
+
+    ghost equal = { Prim.search rules };
+}
+
+impl DefaultIsZero for CommandRow {
+    ghost zero = { command_zero };
+
+    ghost equal = { Prim.search rules };
+}
+
+impl DefaultIsZero for JobRow {
+    ghost zero = { job_zero };
+
+    ghost equal = { Prim.search rules };
+}
+
+impl DefaultIsZero for Slot {
+    ghost zero = { slot_zero };
+
+    ghost equal = { Prim.search rules };
+}
+
+// Its default says nothing of how long its slots are, which any row's are: so its slots are looked at one by one.
 impl Zeroed for RunningRow {
     ghost zeroed = { running_zero };
 
     fn is_zero(&self) -> bool {
-        if self.location == 0 && self.roles == 0 && self.command == 0 {
-            first_written(&self.slots, 0).is_none()
-        } else {
-            false
-        }
+        self.location == 0
+            && self.roles == 0
+            && self.command == 0
+            && first_written(&self.slots, 0).is_none()
     }
 }

@@ -1,50 +1,20 @@
-use Rattle.std.proofs.Common.{◌≡◌, ◌≤◌, get_or, inl, inr, arith}
-use Rattle.number.proofs.Turns.{at-end, at-large, at_zero, at_last, fit, high_fit, next_turn}
+use Rattle.std.proofs.Common.{inl, inr, Err, ap, ◌∙◌, arith}
+use Rattle.number.proofs.Turns.{too-large, at_last, next_turn}
 use Rattle.number.proofs.reading.read_within.Goals as goal
+use Rattle.number.proofs.reading.read_within.Goals.{then-digit-limit-via-then-digit-limit, then-digit-limit-via-else-digit-limit+then-groups-gt0}
 
-pub returns-then-digit-limit : goal.returns-then-digit-limit
-returns-then-digit-limit c = record {
-  answer = at-large _ _ _ _ _ _ _ c.loop-place.invariant c.loop-place-test.true c.if-digit-limit.true;
-  within = tt;
-}
+pub returns-then-digit-limit-clause-answer : goal.returns-then-digit-limit-clause-answer
+returns-then-digit-limit-clause-answer c =
+    ap Err c.at.ensures.answer ∙ too-large _ _ _ _ _ _ c.loop-groups.invariant c.loop-groups-test.true _ c.from-digit.ensures
+    (elim c.then-digit-limit.branch [
+      | then-digit-limit-via-then-digit-limit w ↦ inl w.if-digit-limit.true
+      | then-digit-limit-via-else-digit-limit+then-groups-gt0 w ↦ inr w.if-groups-gt0.true
+    ])
 
-pub returns-then-scale-gt1 : goal.returns-then-scale-gt1
-returns-then-scale-gt1 c = record {
-  answer = at_zero _ _ _ _ _ _ _ c.loop-place.invariant c.loop-place-test.true c.if-digit-limit.false c.if-digit-eq0.true c.if-scale-gt1.true;
-  within = tt;
-}
+pub loop-groups-preserved : goal.loop-groups-preserved
+loop-groups-preserved c = next_turn _ _ _ _ _ _ c.loop-groups.invariant c.loop-groups-test.true _ c.from-digit.ensures c.if-digit-limit.false (omega arith) c.if-digit-lt128.false
 
-pub overflow_mul-result : goal.overflow_mul-result
-overflow_mul-result c = omega (arith, fit _ _ _ _ _ _ _ c.loop-place.invariant c.loop-place-test.true c.if-digit-limit.false)
-
-pub overflow_add-result : goal.overflow_add-result
-overflow_add-result c = omega (arith, fit _ _ _ _ _ _ _ c.loop-place.invariant c.loop-place-test.true c.if-digit-limit.false)
-
-pub returns-then-digit-lt128 : goal.returns-then-digit-lt128
-returns-then-digit-lt128 c =
-    let some : get_or c.args.bytes.now c.loop-place.place 0 ≡ 0 → c.loop-place.scale ≤ 1 =
-    λ z. elim c.else-digit-eq0.either [ inl p ↦ p.1 | inr n ↦ absurd (n z) ] in
-    record {
-      answer = at_last _ _ _ _ _ _ _ c.loop-place.invariant c.loop-place-test.true c.if-digit-limit.false c.if-digit-lt128.true some;
-      within = (
-        omega (arith, c.loop-place.invariant.3),
-        omega (arith, c.loop-place-test.true),
-        omega (arith, fit _ _ _ _ _ _ _ c.loop-place.invariant c.loop-place-test.true c.if-digit-limit.false),
-      );
-    }
-
-pub overflow_mul-value : goal.overflow_mul-value
-overflow_mul-value c = omega (arith, high_fit _ _ _ _ _ _ _ c.loop-place.invariant c.loop-place-test.true c.if-digit-limit.false c.if-digit-lt128.false)
-
-pub overflow_add-value : goal.overflow_add-value
-overflow_add-value c = omega (arith, high_fit _ _ _ _ _ _ _ c.loop-place.invariant c.loop-place-test.true c.if-digit-limit.false c.if-digit-lt128.false)
-
-pub overflow_mul-scale : goal.overflow_mul-scale
-overflow_mul-scale c = omega (arith, high_fit _ _ _ _ _ _ _ c.loop-place.invariant c.loop-place-test.true c.if-digit-limit.false c.if-digit-lt128.false)
-
-pub loop-place-preserved : goal.loop-place-preserved
-loop-place-preserved c =
-    next_turn _ _ _ _ _ _ _ c.loop-place.invariant c.loop-place-test.true c.if-digit-limit.false c.if-digit-lt128.false (omega arith)
-
-pub returns : goal.returns
-returns c = record { answer = at-end _ _ _ _ _ _ _ c.loop-place.invariant c.loop-place-test.false; within = tt }
+pub returns-then-digit-lt128-clause-answer : goal.returns-then-digit-lt128-clause-answer
+returns-then-digit-lt128-clause-answer c =
+    at_last _ _ _ _ _ _ c.loop-groups.invariant c.loop-groups-test.true _ c.from-digit.ensures c.if-digit-limit.false (omega arith) c.if-digit-lt128.true
+    (λ z. elim c.if-groups-gt0.either [ inl p ↦ p.1 | inr n ↦ absurd (n z) ])

@@ -1,7 +1,7 @@
 use Rattle.std.proofs.Common.{◌+◌, drop, sym, ap, ◌∙◌}
 use Rattle.scan.specs.Scan.{scan}
 use Rattle.scan.proofs.Scan.{scan-here, scan-next, scan-done}
-use Rattle.scan.proofs.judging.first_behind.Goals as goal
+use Rattle.scan.proofs.judging.first_fault.Goals as goal
 
 pub returns-then-not-passes : goal.returns-then-not-passes
 returns-then-not-passes g c = record {
