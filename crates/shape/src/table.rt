@@ -7,7 +7,7 @@ use scan::{Judged, first_fault};
 use zeros::{Zeroed, first_written};
 
 // The first row too many, else the first row past the last that is not zero.
-fn rest_fault<T: Zeroed + Copy, const N: usize>(table: &Table<T, N>) -> Option<usize>
+fn rest_fault<T: Zeroed, const N: usize>(table: &Table<T, N>) -> Option<usize>
     ensures answer { result ≡ rest_fault T.zeroed N table.now }
 {
     if N < table.count {

@@ -1,5 +1,5 @@
 -- The last row in use, as the code takes it.
-use Rattle.std.proofs.Common.{◌≡◌, ℕ, ◌+◌, ◌-◌, min, length, get_or, eqb, Some, None, Option, sym, ap, ◌∙◌, subst, inl, inr, arith}
+use Rattle.std.proofs.Common.{◌≡◌, ℕ, List, ◌+◌, ◌-◌, min, length, get_or, eqb, Some, None, Option, sym, ap, ◌∙◌, subst, inl, inr, arith}
 use Rattle.std.specs.Prelude.{slice_get, MatchOption}
 use Rattle.std.proofs.lemmas.Option.{slice_get-get_or, slice_get_past}
 use Rattle.std.proofs.lemmas.List.{get_or-take}
@@ -15,7 +15,7 @@ module _ {X : Type 0} {n : ℕ} (number : X → ℕ) (zero : X) (rows limit : �
   abbrev found : ℕ
   found = within (number (get_or t.rows (within t.count rows - 1) zero) + 1) limit
 
-  pub numbered_last : (r : ℕ) → length (in_use t) ≡ min t.count rows → MatchOption last (r ≡ 0) (λ x. r ≡ within (number x + 1) limit) → r ≡ numbered_in number zero rows limit t
+  numbered_last : (r : ℕ) → length (in_use t) ≡ min t.count rows → MatchOption last (r ≡ 0) (λ x. r ≡ within (number x + 1) limit) → r ≡ numbered_in number zero rows limit t
   numbered_last r long m = elim (cases_eq (within t.count rows) 0) [
     | inl z ↦
         let none : last ≡ None = slice_get_past (in_use t) (length (in_use t) - 1) (omega arith) in
@@ -27,3 +27,10 @@ module _ {X : Type 0} {n : ℕ} (number : X → ℕ) (zero : X) (rows limit : �
         subst (λ (o : Option X). MatchOption o (r ≡ 0) (λ x. r ≡ within (number x + 1) limit)) some m
         ∙ (ap (λ (x : X). within (number x + 1) limit) here ∙ sym (cond-false (eqb (within t.count rows) 0) 0 found (ne_eqb (within t.count rows) 0 z)))
   ]
+
+  -- the same of rows that are those in use
+  pub numbered_rows : (r : ℕ) (xs : List X) → xs ≡ in_use t → length xs ≡ min t.count rows → MatchOption (slice_get xs (length xs - 1)) (r ≡ 0) (λ x. r ≡ within (number x + 1) limit)
+      → r ≡ numbered_in number zero rows limit t
+  numbered_rows r xs same =
+      subst (λ (ys : List X). length ys ≡ min t.count rows → MatchOption (slice_get ys (length ys - 1)) (r ≡ 0) (λ x. r ≡ within (number x + 1) limit) → r ≡ numbered_in number zero rows limit t)
+      (sym same) (numbered_last r)

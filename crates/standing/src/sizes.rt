@@ -1,11 +1,10 @@
 // What there is to be named.
-ghost use Rattle.std.specs.Prelude.{◌≡◌, ℕ};
-ghost use Rattle.layout.specs.Zeros.{step0, template0};
+ghost use Rattle.std.specs.Prelude.{◌≡◌};
 ghost use Rattle.standing.specs.Sizes.{numbered_in, sizes_of};
 
 use layout::{Table, Tables};
 use order::Order;
-use rows::{PathStepRow, TemplateRow};
+use rows::Numbered;
 
 // The roles of the order, and how many rows of each kind there are. A row exists where it is below its table's count and
 // below its limit, so a count that passes the limit counts as the limit.
@@ -23,39 +22,9 @@ pub struct Sizes {
     pub shelf: usize,
 }
 
-// A row of something that lies in several rows and is numbered on from 0, as a path or a template is.
-trait Numbered: Copy {
-    ghost zero: { Self };
-
-    ghost number: { Self → ℕ };
-
-    fn number(&self) -> u32
-        ensures answer { result ≡ number self.now };
-}
-
-impl Numbered for PathStepRow {
-    ghost zero = { step0 };
-
-    ghost number = { λ row. row.path };
-
-    fn number(&self) -> u32 {
-        self.path
-    }
-}
-
-impl Numbered for TemplateRow {
-    ghost zero = { template0 };
-
-    ghost number = { λ row. row.template };
-
-    fn number(&self) -> u32 {
-        self.template
-    }
-}
-
 // One more than the number of the last row's, since they are numbered on from 0, and at most the limit.
-fn numbered_in<T: Numbered, const N: usize>(table: &Table<T, N>, limit: usize) -> usize
-    ensures answer { result ≡ numbered_in T.number T.zero N limit table.now }
+fn numbered_in<T: Numbered + Copy, const N: usize>(table: &Table<T, N>, limit: usize) -> usize
+    ensures answer { (zero : _) → result ≡ numbered_in T.number zero N limit table.now }
 {
     table
         .in_use()

@@ -4,7 +4,7 @@ ghost use Rattle.meaning.specs.declared.patterns.Pattern.{Pattern};
 ghost use Rattle.standing.specs.Tests.{policy_passes, grant_passes, location_passes, pattern_stands, pattern_passes, job_passes};
 
 use super::sizes::Sizes;
-use meaning::Pattern;
+use meaning::{Direction, Pattern};
 use order::in_use_of;
 use rows::{GrantRow, JobRow, LocationRow, PatternRow, PolicyRow};
 use scan::Stands;
@@ -22,7 +22,7 @@ impl Stands<Sizes> for GrantRow {
 
     fn stands(&self, names: &Sizes, _row: usize) -> bool {
         (self.policy as usize) < names.policies
-            && self.direction <= 1
+            && Direction::try_from(self.direction).is_ok()
             && self.role < names.roles
             && in_use_of(names.roles, self.holder)
     }
