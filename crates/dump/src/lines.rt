@@ -9,8 +9,9 @@ ghost use Rattle.dump.specs.Dumping.{row_line, row_text, slot_text, slots_text, 
 use super::field::FieldTexts;
 use super::finding::{edge_at, shelved_at};
 use super::listed::Fields;
-use layout::{RunningRow, Slot, Table, Tables};
+use layout::{RunningRow, Slot, Table, TableKind, Tables};
 use rows::TreeLine;
+use sheet::LineKind;
 use std::alloc::{AllocError, Global};
 use std::fmt;
 
@@ -46,6 +47,7 @@ fn table_line<R: Fields, const N: usize>(
 }
 
 // The line of the row, if it is in use; edges are counted over all locations. Want of memory is the only error.
+#[tactic(auto, using(layout::proofs::Numbers::tables_numbered))]
 pub fn row_text(
     heap: Global,
     tables: &Tables,
@@ -54,17 +56,20 @@ pub fn row_text(
 ) -> Result<Option<String>, AllocError>
     ensures answer { IfOk result (λ o. option_map string_bytes o ≡ row_text (network tables.now) table row) }
 {
-    match table {
-        1 => table_line(heap, table, row, &tables.policies),
-        2 => table_line(heap, table, row, &tables.grants),
-        3 => table_line(heap, table, row, &tables.locations),
-        4 => table_line(heap, table, row, &tables.steps),
-        5 => found_line(heap, table, row, edge_at(tables, row)),
-        6 => table_line(heap, table, row, &tables.templates),
-        7 => table_line(heap, table, row, &tables.patterns),
-        8 => table_line(heap, table, row, &tables.commands),
-        9 => table_line(heap, table, row, &tables.jobs),
-        _ => Ok(None),
+    let Ok(kind) = TableKind::try_from(table) else {
+        return Ok(None);
+    };
+    match kind {
+        TableKind::Lines(LineKind::Policy) => table_line(heap, table, row, &tables.policies),
+        TableKind::Lines(LineKind::Grant) => table_line(heap, table, row, &tables.grants),
+        TableKind::Lines(LineKind::Location) => table_line(heap, table, row, &tables.locations),
+        TableKind::Lines(LineKind::PathStep) => table_line(heap, table, row, &tables.steps),
+        TableKind::Lines(LineKind::Edge) => found_line(heap, table, row, edge_at(tables, row)),
+        TableKind::Lines(LineKind::TemplateLine) => table_line(heap, table, row, &tables.templates),
+        TableKind::Lines(LineKind::Pattern) => table_line(heap, table, row, &tables.patterns),
+        TableKind::Lines(LineKind::Command) => table_line(heap, table, row, &tables.commands),
+        TableKind::Lines(LineKind::Job) => table_line(heap, table, row, &tables.jobs),
+        TableKind::Running | TableKind::Shelf => Ok(None),
     }
 }
 

@@ -11,7 +11,7 @@ use layout::{TableKind, Tables};
 use sheet::LineKind;
 
 // Writes the number, or tells the first of its numbers that is wrong.
-#[tactic(auto, using(crate::proofs::Numbers::tables_numbered))]
+#[tactic(auto, using(layout::proofs::Numbers::tables_numbered))]
 pub fn poke(tables: &mut Tables, poke: Poke) -> Result<(), Wrong>
     ensures answer { result ≡ (poked tables.old poke.table poke.row poke.field poke.value).0 }
     ensures after { tables.new ≡ (poked tables.old poke.table poke.row poke.field poke.value).1 }
