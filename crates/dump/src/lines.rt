@@ -84,11 +84,9 @@ impl fmt::Display for SlotText {
     ghost output = { λ s. Some (slot_text s.number s.slot) };
 
     fn fmt<W: fmt::Write>(&self, f: &mut fmt::Formatter<W>) -> fmt::Result {
-        let Slot { pattern, value } = self.slot;
-        if pattern == 0 {
+        let Some((row, value)) = self.slot.filling() else {
             return Ok(());
-        }
-        let row = pattern - 1;
+        };
         write!(f, " slot {} pattern {row} value {value}", self.number)
     }
 }
