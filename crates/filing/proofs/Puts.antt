@@ -14,7 +14,8 @@ use Rattle.rows.specs.declared.row.JobRow.{JobRow}
 use Rattle.layout.specs.declared.held.Table.{Table}
 use Rattle.layout.specs.declared.memory.Tables.{Tables}
 use Rattle.layout.specs.Held.{held, pushed}
-use Rattle.layout.specs.Network.{Network, TreeLines, tree_of, stored, Fits, Holds}
+use Rattle.layout.specs.Network.{Network, TreeLines, tree_of, network, stored, Fits, Holds}
+use Rattle.layout.proofs.Back.{holds_network}
 use Rattle.layout.specs.Zeros.{policy0, grant0, location0, step0, line0, template0, pattern0, command0, job0, no_tree}
 use Rattle.layout.proofs.Pads.{held-push}
 use Rattle.filing.specs.declared.decoded.Row.{Row}
@@ -199,3 +200,7 @@ puts t n row case r e g = subst (λ (x : Row). Puts t n x r) (sym e) (record { a
 pub within : (t : Tables) (n more : Network) (r room : Bool) (number limit : ℕ) → number < limit → Gives t n r room more → Gives t n r (ltb number limit && room) more
 within t n more r room number limit less g =
     record { answer = g.answer ∙ sym (ap (λ (b : Bool). b && room) (lt-ltb number limit less)); after = g.after }
+
+-- tables that hold a network hold the one that is read off them
+pub holds_own : (t : Tables) (n : Network) → Holds t n → Holds t (network t)
+holds_own t n h = subst (λ (m : Network). Holds t m) (sym (holds_network t n h)) h
