@@ -14,7 +14,7 @@ use std::fmt;
 
 // What is known of the lines before: the kind of the last one, none before the first, and the location of the last edge,
 // 0 before the first.
-#[derive(Clone, Copy, Debug, PartialEq, Eq)]
+#[derive(Clone, Copy, Debug, Default, PartialEq, Eq)]
 pub struct Before {
     pub kind: Option<LineKind>,
     pub location: u32,

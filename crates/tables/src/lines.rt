@@ -32,11 +32,7 @@ pub(crate) fn file_lines(tables: &mut Tables, sheet: &[u8]) -> Result<usize, Loa
     ensures holds { Holds tables.new (network tables.new) }
 {
     let mut reader = Reader::new(sheet);
-    let nothing_before = Before {
-        kind: None,
-        location: 0,
-    };
-    let mut filing = Filing::new(tables, nothing_before);
+    let mut filing = Filing::new(tables, Before::default());
     let mut line = 0;
     while let Some(placed) = reader
         .next_line()
