@@ -1,5 +1,5 @@
 -- Filing: when a line is in its place, when there is room for it, and the network with it.
-use Rattle.std.specs.Prelude.{ℕ, ◌+◌, ◌-◌, Bool, true, cond, ◌&&◌, ◌||◌, List, [], ◌∷◌, ◌++◌, length, get_or, Ok, Err, Result, ◌==◌, nat_le, nat_lt, slice_index_or, slice_set}
+use Rattle.std.specs.Prelude.{ℕ, ◌+◌, ◌-◌, Bool, true, cond, ◌&&◌, ◌||◌, List, [], ◌∷◌, ◌++◌, length, Some, None, Ok, Err, Option, Result, ◌==◌, nat_le, nat_lt, slice_get, slice_index_or, slice_set, codes}
 use Rattle.rows.specs.declared.row.PolicyRow.{PolicyRow}
 use Rattle.rows.specs.declared.row.GrantRow.{GrantRow}
 use Rattle.rows.specs.declared.row.LocationRow.{LocationRow}
@@ -9,26 +9,32 @@ use Rattle.rows.specs.declared.row.PatternRow.{PatternRow}
 use Rattle.rows.specs.declared.row.CommandRow.{CommandRow}
 use Rattle.rows.specs.declared.row.JobRow.{JobRow}
 use Rattle.layout.specs.Network.{Network, Plan, TreeLines}
-use Rattle.layout.specs.Zeros.{step0, template0}
 use Rattle.filing.specs.declared.decoded.Row.{Row}
 use Rattle.filing.specs.declared.decoded.Row.TheVariants.{Policy, Grant, Location, PathStep, Edge, TemplateLine, Pattern, Command, Job}
 use Rattle.filing.specs.declared.placing.Before.{Before}
 use Rattle.filing.specs.declared.placing.Misplaced.{Misplaced}
 use Rattle.filing.specs.declared.placing.Misplaced.TheVariants.{OutOfPlace, Full}
-use Rattle.filing.specs.Rows.{kind_number}
+use Rattle.sheet.specs.declared.kinds.LineKind.{LineKind}
+use Rattle.sheet.specs.Kinds.{code_of}
+use Rattle.filing.specs.Rows.{row_kind}
 
 -- before the first line there is no line of any kind
 abbrev pub none_before : Before
-none_before = record { kind = 0; location = 0 }
+none_before = record { kind = None; location = 0 }
 
 -- ---- in its place
 
--- how many paths have begun, and how many templates: one more than the last line's number
+-- one more than the number of the last row; 0 where there is none
+abbrev pub next_number : {X : Type 0} → (X → ℕ) → Option X → ℕ
+next_number number None = 0
+next_number number (Some row) = number row + 1
+
+-- how many paths have begun, and how many templates
 abbrev pub path_count : List PathStepRow → ℕ
-path_count steps = cond (length steps == 0) 0 ((get_or steps (length steps - 1) step0).path + 1)
+path_count steps = next_number (λ step. step.path) (slice_get steps (length steps - 1))
 
 abbrev pub template_count : List TemplateRow → ℕ
-template_count lines = cond (length lines == 0) 0 ((get_or lines (length lines - 1) template0).template + 1)
+template_count lines = next_number (λ line. line.template) (slice_get lines (length lines - 1))
 
 -- the number is the next, or that of the line before
 abbrev pub runs_on : ℕ → ℕ → Bool
@@ -46,9 +52,13 @@ follows before n (Pattern row) = true
 follows before n (Command row) = true
 follows before n (Job row) = true
 
--- the kinds come in their order
+-- the kinds come in their order, and any may come first
+abbrev pub comes_after : Option LineKind → LineKind → Bool
+comes_after None kind = true
+comes_after (Some last) kind = nat_le (code_of last) (code_of kind)
+
 abbrev pub in_place : Before → Network → Row → Bool
-in_place before n row = nat_le before.kind (kind_number row) && follows before n row
+in_place before n row = comes_after before.kind (row_kind row) && follows before n row
 
 -- ---- room
 
@@ -123,7 +133,7 @@ location_after location (Command row) = location
 location_after location (Job row) = location
 
 abbrev pub behind : Before → Row → Before
-behind before row = record { kind = kind_number row; location = location_after before.location row }
+behind before row = record { kind = Some (row_kind row); location = location_after before.location row }
 
 -- a line out of place is told before a full table
 abbrev pub placed : Before → Network → Row → Result Before Misplaced
@@ -132,3 +142,8 @@ placed before n row = cond (in_place before n row) (cond (has_room n row) (Ok (b
 abbrev pub network_after : Result Before Misplaced → Network → Row → Network
 network_after (Ok before) n row = filed n row
 network_after (Err why) n row = n
+
+-- why a line is not filed, in words
+abbrev pub misplaced_words : Misplaced → List ℕ
+misplaced_words OutOfPlace = codes "the line is out of place"
+misplaced_words Full = codes "the line's table is full, or its path or template is one too many"

@@ -22,14 +22,14 @@ row_of kind.Job bytes = Job (job_row bytes)
 abbrev pub row_shown : LineKind × List ℕ → Row
 row_shown shown = row_of shown.0 shown.1
 
--- the number of the row's kind
-abbrev pub kind_number : Row → ℕ
-kind_number (Policy row) = 1
-kind_number (Grant row) = 2
-kind_number (Location row) = 3
-kind_number (PathStep row) = 4
-kind_number (Edge row) = 5
-kind_number (TemplateLine row) = 6
-kind_number (Pattern row) = 7
-kind_number (Command row) = 8
-kind_number (Job row) = 9
+-- the kind of the line that spells the row
+abbrev pub row_kind : Row → LineKind
+row_kind (Policy row) = kind.Policy
+row_kind (Grant row) = kind.Grant
+row_kind (Location row) = kind.Location
+row_kind (PathStep row) = kind.PathStep
+row_kind (Edge row) = kind.Edge
+row_kind (TemplateLine row) = kind.TemplateLine
+row_kind (Pattern row) = kind.Pattern
+row_kind (Command row) = kind.Command
+row_kind (Job row) = kind.Job

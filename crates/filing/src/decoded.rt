@@ -1,15 +1,15 @@
 // The row that a line spells, whatever its kind.
 ghost use Rattle.std.specs.Prelude.{◌≡◌};
 ghost use Rattle.sheet.specs.Showing.{shows};
-ghost use Rattle.filing.specs.Rows.{row_shown, kind_number};
+ghost use Rattle.filing.specs.Rows.{row_shown, row_kind};
 
 use rows::{
     CommandRow, EdgeRow, GrantRow, JobRow, LocationRow, PathStepRow, PatternRow, PolicyRow,
     TemplateRow,
 };
-use sheet::Line;
+use sheet::{Line, LineKind};
 
-#[derive(Clone, Copy)]
+#[derive(Clone, Copy, Debug, PartialEq, Eq)]
 pub enum Row {
     Policy(PolicyRow),
     Grant(GrantRow),
@@ -22,10 +22,11 @@ pub enum Row {
     Job(JobRow),
 }
 
-impl Row {
-    pub fn decode(line: Line<'_>) -> Row
-        ensures answer { result ≡ row_shown (shows line.entry) }
-    {
+// The row that the line spells.
+impl From<Line<'_>> for Row {
+    ghost from_gives = { λ line row. row ≡ row_shown (shows line) };
+
+    fn from(line: Line<'_>) -> Row {
         match line {
             Line::Policy(stretch) => Row::Policy(PolicyRow::decode(stretch)),
             Line::Grant(stretch) => Row::Grant(GrantRow::decode(stretch)),
@@ -38,21 +39,23 @@ impl Row {
             Line::Job(stretch) => Row::Job(JobRow::decode(stretch)),
         }
     }
+}
 
-    // The number of the row's kind in a sheet.
-    pub(crate) fn kind(self) -> u32
-        ensures answer { result ≡ kind_number self }
+impl Row {
+    // The kind of the line that spells the row.
+    pub(crate) fn kind(self) -> LineKind
+        ensures answer { result ≡ row_kind self }
     {
         match self {
-            Row::Policy(_) => 1,
-            Row::Grant(_) => 2,
-            Row::Location(_) => 3,
-            Row::PathStep(_) => 4,
-            Row::Edge(_) => 5,
-            Row::TemplateLine(_) => 6,
-            Row::Pattern(_) => 7,
-            Row::Command(_) => 8,
-            Row::Job(_) => 9,
+            Row::Policy(_) => LineKind::Policy,
+            Row::Grant(_) => LineKind::Grant,
+            Row::Location(_) => LineKind::Location,
+            Row::PathStep(_) => LineKind::PathStep,
+            Row::Edge(_) => LineKind::Edge,
+            Row::TemplateLine(_) => LineKind::TemplateLine,
+            Row::Pattern(_) => LineKind::Pattern,
+            Row::Command(_) => LineKind::Command,
+            Row::Job(_) => LineKind::Job,
         }
     }
 }

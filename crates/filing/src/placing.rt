@@ -1,29 +1,54 @@
 // Files a line: first whether it is in its place, then whether there is room for it.
-ghost use Rattle.std.specs.Prelude.{◌≡◌, ◌≤◌};
-ghost use Rattle.layout.specs.Held.{in_use};
+ghost use Rattle.std.specs.Prelude.{◌≡◌, ◌-◌, Some, length, slice_get};
 ghost use Rattle.layout.specs.Network.{network, Holds};
-ghost use Rattle.filing.specs.Filing.{runs_on, path_count, template_count, in_place, behind, placed, network_after};
+ghost use Rattle.filing.specs.declared.placing.Misplaced.TheVariants.{Full};
+ghost use Rattle.filing.specs.Filing.{runs_on, next_number, in_place, behind, placed, network_after, misplaced_words};
 
 use super::decoded::Row;
 use super::putting::put;
-use layout::{Table, Tables};
-use rows::{PathStepRow, TemplateRow};
+use layout::{NoRoom, Tables};
+use rows::Numbered;
+use sheet::LineKind;
+use std::error::Error;
+use std::fmt;
 
-// What is known of the lines before: the kind of the last one, and the location of the last edge; 0 where there is none.
-#[derive(Clone, Copy)]
+// What is known of the lines before: the kind of the last one, none before the first, and the location of the last edge,
+// 0 before the first.
+#[derive(Clone, Copy, Debug, PartialEq, Eq)]
 pub struct Before {
-    pub kind: u32,
+    pub kind: Option<LineKind>,
     pub location: u32,
 }
 
 // Why a line is not filed.
-#[derive(Clone, Copy)]
+#[derive(Clone, Copy, Debug, PartialEq, Eq)]
 pub enum Misplaced {
     // It should stand earlier or later, or what it speaks of does not stand before it.
     OutOfPlace,
     // Its table has no row left, or there is no path or template of that number.
     Full,
 }
+
+impl From<NoRoom> for Misplaced {
+    ghost from_gives = { λ _ why. why ≡ Full };
+
+    fn from(_full: NoRoom) -> Self {
+        Self::Full
+    }
+}
+
+impl fmt::Display for Misplaced {
+    ghost output = { λ why. Some (misplaced_words why) };
+
+    fn fmt<W: fmt::Write>(&self, f: &mut fmt::Formatter<W>) -> fmt::Result {
+        f.write_str(match self {
+            Misplaced::OutOfPlace => "the line is out of place",
+            Misplaced::Full => "the line's table is full, or its path or template is one too many",
+        })
+    }
+}
+
+impl Error for Misplaced {}
 
 // Paths and templates are numbered without a gap: the number is that of the line before, or one more.
 fn runs_on(number: u32, count: usize) -> bool
@@ -33,41 +58,31 @@ fn runs_on(number: u32, count: usize) -> bool
     number == count || number + 1 == count
 }
 
-fn path_count(steps: &Table<PathStepRow, 256>) -> usize
-    requires few { steps.now.count ≤ 256 }
-    ensures answer { result ≡ path_count (in_use steps.now) }
+// How many paths or templates have begun: one more than the number of the last row.
+fn next_number<T: Numbered>(rows: &[T]) -> usize
+    ensures answer { result ≡ next_number T.number (slice_get rows.now (length rows.now - 1)) }
 {
-    if steps.count == 0 {
-        return 0;
+    match rows.last() {
+        Some(last) => last.number() as usize + 1,
+        None => 0,
     }
-    let last = steps.rows[steps.count - 1].path;
-    last as usize + 1
-}
-
-fn template_count(lines: &Table<TemplateRow, 256>) -> usize
-    requires few { lines.now.count ≤ 256 }
-    ensures answer { result ≡ template_count (in_use lines.now) }
-{
-    if lines.count == 0 {
-        return 0;
-    }
-    let last = lines.rows[lines.count - 1].template;
-    last as usize + 1
 }
 
 fn in_place(tables: &Tables, before: Before, row: Row) -> bool
-    requires holds { Holds tables.now (network tables.now) }
     ensures answer { result ≡ in_place before (network tables.now) row }
 {
-    if row.kind() < before.kind {
+    if Some(row.kind()) < before.kind {
         return false;
     }
     match row {
-        Row::PathStep(step) => runs_on(step.path, path_count(&tables.steps)),
+        Row::PathStep(step) => runs_on(step.path, next_number(tables.steps.in_use())),
         Row::Edge(edge) => {
-            (edge.location as usize) < tables.locations.count && before.location <= edge.location
+            (edge.location as usize) < tables.locations.in_use().len()
+                && before.location <= edge.location
         }
-        Row::TemplateLine(line) => runs_on(line.template, template_count(&tables.templates)),
+        Row::TemplateLine(line) => {
+            runs_on(line.template, next_number(tables.templates.in_use()))
+        }
         Row::Policy(_)
         | Row::Grant(_)
         | Row::Location(_)
@@ -87,7 +102,7 @@ impl Before {
             _ => self.location,
         };
         Before {
-            kind: row.kind(),
+            kind: Some(row.kind()),
             location,
         }
     }
@@ -102,8 +117,6 @@ pub fn file(tables: &mut Tables, before: Before, row: Row) -> Result<Before, Mis
     if !in_place(tables, before, row) {
         return Err(Misplaced::OutOfPlace);
     }
-    if !put(tables, row) {
-        return Err(Misplaced::Full);
-    }
+    put(tables, row)?;
     Ok(before.after(row))
 }

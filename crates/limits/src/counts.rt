@@ -3,7 +3,7 @@ use super::shapes::{fill, judge};
 use super::sheets::{numbers_of, parts, written};
 use super::tells::tell_place;
 use drawn::Drawn;
-use layout::{RunningRow, Slot, Tables};
+use layout::{RunningRow, Tables};
 use rows::TreeLine;
 use shape::Stage;
 use std::io;
@@ -13,34 +13,23 @@ const FULL: &str = "\
     1 16 0 1 1 | 1 64 0 2 0 0 1 0 | 1 16 0 3 0 | 64 4 1 4 0 0 1 | 16 128 1 5 0 1 0 1 0 0 0 | \
     32 8 1 6 0 1 0 1 0 0 0 | 1 64 0 7 1 0 0 0 0 | 1 255 0 8 3 0 0 0 0 0 0 0 | 1 64 0 9 0 1 1";
 
-const SLOT: Slot = Slot {
-    pattern: 0,
-    value: 0,
-};
-
-const RUNNING: RunningRow = RunningRow {
-    location: 0,
-    roles: 1,
-    command: 1,
-    slots: [SLOT; 6],
-};
-
-const LINE: TreeLine = TreeLine {
-    depth: 1,
-    label: 0,
-    set: 1,
-    content: 0,
-    first: 0,
-    second: 0,
-};
-
 // 64 running jobs, and 64 shelved trees of 16 lines.
 fn crowd(tables: &mut Tables) {
+    let job = RunningRow {
+        roles: 1,
+        command: 1,
+        ..RunningRow::default()
+    };
+    let line = TreeLine {
+        depth: 1,
+        set: 1,
+        ..TreeLine::default()
+    };
     tables.running.count = 64;
-    tables.running.rows = [RUNNING; 64];
+    tables.running.rows = [job; 64];
     tables.shelf.trees.count = 64;
     tables.shelf.trees.rows = [16; 64];
-    tables.shelf.lines = [LINE; 1024];
+    tables.shelf.lines = [line; 1024];
 }
 
 const CASES: &str = "\
@@ -121,8 +110,8 @@ const SHELVES: &str = "\
 // The lines stay as they are.
 fn shelve(tables: &mut Tables, trees: usize, lines: usize) {
     tables.shelf.trees.count = trees;
-    for tree in 0..64 {
-        tables.shelf.trees.rows[tree] = if tree < trees { lines } else { 0 };
+    for (tree, row) in tables.shelf.trees.rows.iter_mut().enumerate() {
+        *row = if tree < trees { lines } else { 0 };
     }
 }
 

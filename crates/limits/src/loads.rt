@@ -20,14 +20,10 @@ fn left(tables: &Tables) -> &'static str {
         tables.running.count,
         tables.shelf.trees.count,
     ];
-    for count in rows {
-        if count != 0 {
-            return "rows left";
-        }
-    }
-    match shape::<Drawn>(tables, Stage::Draft) {
-        Some(_) => "rows left",
-        None => "all blank",
+    if rows.iter().all(|count| *count == 0) && shape::<Drawn>(tables, Stage::Draft).is_none() {
+        "all blank"
+    } else {
+        "rows left"
     }
 }
 

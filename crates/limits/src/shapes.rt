@@ -89,9 +89,7 @@ fn write_one(rt: &HostRuntime, tables: &mut Tables, text: &str) -> io::Result<bo
 pub(crate) fn write(rt: &HostRuntime, tables: &mut Tables, pokes: &str) -> io::Result<bool> {
     let mut all = true;
     for text in pokes.split('|') {
-        if !write_one(rt, tables, text)? {
-            all = false;
-        }
+        all = write_one(rt, tables, text)? && all;
     }
     Ok(all)
 }

@@ -49,8 +49,6 @@ pub(crate) fn written(rt: &HostRuntime, runs: &str) -> io::Result<Vec<u8>> {
 
 // What a case is called, and what stands behind the first bar.
 pub(crate) fn parts(case: &str) -> (&str, &str) {
-    match case.split_once('|') {
-        Some((what, rest)) => (what.trim(), rest),
-        None => (case, ""),
-    }
+    case.split_once('|')
+        .map_or((case, ""), |(what, rest)| (what.trim(), rest))
 }

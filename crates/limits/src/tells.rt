@@ -13,7 +13,7 @@ pub(crate) fn tell_place<O: Order>(
 ) -> io::Result<()> {
     match shape::<O>(tables, stage) {
         Some(place) => {
-            let table = place.table;
+            let table = u32::from(place.table);
             let row = place.row;
             println!(rt; "{what} -> table {table} row {row}")
         }

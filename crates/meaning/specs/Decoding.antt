@@ -48,6 +48,10 @@ operand_of q =
 abbrev pub narrow_of : CommandRow → Option ℕ
 narrow_of q = when (nat_le q.first (2 ^ 32 - 1)) q.first
 
+-- the operand, and the first field as a number
+abbrev pub path_and_number : CommandRow → Option (Operand × ℕ)
+path_and_number q = then_some (operand_of q) (λ path. then_some (narrow_of q) (λ n. Some (path, n)))
+
 -- the fields behind the first are not used
 abbrev pub only_first : CommandRow → Bool
 only_first q = q.second == 0 && (q.third == 0 && q.fourth == 0)

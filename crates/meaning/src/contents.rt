@@ -2,7 +2,7 @@
 ghost use Rattle.std.specs.Prelude.{◌≡◌};
 ghost use Rattle.meaning.specs.Decoding.{content_of};
 
-#[derive(Clone, Copy)]
+#[derive(Clone, Copy, Debug, PartialEq, Eq)]
 pub enum Content {
     // The deeper lines that follow, perhaps none; in a change, the empty tree.
     Tree,
@@ -19,25 +19,13 @@ impl Content {
     pub fn decode(kind: u32, first: u32, second: u32) -> Option<Content>
         ensures answer { result ≡ content_of kind first second }
     {
-        if kind == 3 {
-            return Some(Content::Pointer {
-                path: first,
-                location: second,
-            });
-        }
-        if second != 0 {
-            return None;
-        }
-        match kind {
-            0 => if first == 0 {
-                Some(Content::Tree)
-            } else {
-                None
-            },
-            1 => Some(Content::Number(first)),
-            2 => Some(Content::Script { job: first }),
-            4 => Some(Content::Held { slot: first }),
-            5 => Some(Content::Template { template: first }),
+        match (kind, first, second) {
+            (0, 0, 0) => Some(Content::Tree),
+            (1, number, 0) => Some(Content::Number(number)),
+            (2, job, 0) => Some(Content::Script { job }),
+            (3, path, location) => Some(Content::Pointer { path, location }),
+            (4, slot, 0) => Some(Content::Held { slot }),
+            (5, template, 0) => Some(Content::Template { template }),
             _ => None,
         }
     }

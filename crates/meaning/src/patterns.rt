@@ -5,7 +5,7 @@ ghost use Rattle.meaning.specs.Decoding.{pattern_of};
 use order::RoleSet;
 use rows::PatternRow;
 
-#[derive(Clone, Copy)]
+#[derive(Clone, Copy, Debug, PartialEq, Eq)]
 pub enum Pattern {
     Number {
         slot: u32,
@@ -35,35 +35,16 @@ impl Pattern {
         ensures answer { result ≡ pattern_of row }
     {
         let slot = row.slot;
-        let policy = row.policy;
-        if row.kind == 4 {
-            return Some(Pattern::Tree {
+        match (row.kind, row.policy, row.first, row.second) {
+            (1, 0, 0, 0) => Some(Pattern::Number { slot }),
+            (2, policy, 0, 0) => Some(Pattern::Script { slot, policy }),
+            (3, policy, last, 0) => Some(Pattern::Pointer { slot, policy, last }),
+            (4, policy, first, second) => Some(Pattern::Tree {
                 slot,
                 policy,
-                top: row.first,
-                all: row.second,
-            });
-        }
-        if row.second != 0 {
-            return None;
-        }
-        if row.kind == 3 {
-            return Some(Pattern::Pointer {
-                slot,
-                policy,
-                last: row.first,
-            });
-        }
-        if row.first != 0 {
-            return None;
-        }
-        match row.kind {
-            1 => if policy == 0 {
-                Some(Pattern::Number { slot })
-            } else {
-                None
-            },
-            2 => Some(Pattern::Script { slot, policy }),
+                top: first,
+                all: second,
+            }),
             _ => None,
         }
     }

@@ -1,19 +1,19 @@
 // What a command does.
 ghost use Rattle.std.specs.Prelude.{◌≡◌};
-ghost use Rattle.meaning.specs.Decoding.{operand_of, narrow_of, only_first, fork_of, go_of, run_of, read_of, change_of, enable_of, disable_of, verb_of};
+ghost use Rattle.meaning.specs.Decoding.{operand_of, narrow_of, path_and_number, only_first, fork_of, go_of, run_of, change_of, verb_of};
 
 use super::contents::Content;
 use order::RoleSet;
 use rows::CommandRow;
 
 // Named by its row, or by the slot that holds it.
-#[derive(Clone, Copy)]
+#[derive(Clone, Copy, Debug, PartialEq, Eq)]
 pub enum Operand {
     Row(u32),
     Slot(u32),
 }
 
-#[derive(Clone, Copy)]
+#[derive(Clone, Copy, Debug, PartialEq, Eq)]
 pub enum Verb {
     Fork {
         other: u32,
@@ -58,11 +58,7 @@ fn named_by(row: CommandRow) -> Option<Operand>
 fn narrow(row: CommandRow) -> Option<u32>
     ensures answer { result ≡ narrow_of row }
 {
-    if row.first <= 0xffff_ffff {
-        Some(row.first as u32)
-    } else {
-        None
-    }
+    u32::try_from(row.first).ok()
 }
 
 // Whether the fields behind the first are not used.
@@ -72,21 +68,26 @@ fn only_first(row: CommandRow) -> bool
     row.second == 0 && row.third == 0 && row.fourth == 0
 }
 
+// The operand, and the first field as a number.
+fn path_and_number(row: CommandRow) -> Option<(Operand, u32)>
+    ensures answer { result ≡ path_and_number row }
+{
+    Some((named_by(row)?, narrow(row)?))
+}
+
 fn fork(row: CommandRow) -> Option<Verb>
     ensures answer { result ≡ fork_of row }
 {
     if row.operand_kind != 0 || row.operand != 0 {
         return None;
     }
-    let other = narrow(row)?;
-    Some(Verb::Fork { other })
+    narrow(row).map(|other| Verb::Fork { other })
 }
 
 fn go(row: CommandRow) -> Option<Verb>
     ensures answer { result ≡ go_of row }
 {
-    let location = named_by(row)?;
-    Some(Verb::Go {
+    named_by(row).map(|location| Verb::Go {
         location,
         roles: row.first,
     })
@@ -98,23 +99,13 @@ fn run(row: CommandRow) -> Option<Verb>
     if row.first != 0 {
         return None;
     }
-    let path = named_by(row)?;
-    Some(Verb::Run { path })
-}
-
-fn read(row: CommandRow) -> Option<Verb>
-    ensures answer { result ≡ read_of row }
-{
-    let path = named_by(row)?;
-    let pattern = narrow(row)?;
-    Some(Verb::Read { path, pattern })
+    named_by(row).map(|path| Verb::Run { path })
 }
 
 fn change(row: CommandRow) -> Option<Verb>
     ensures answer { result ≡ change_of row }
 {
-    let path = named_by(row)?;
-    let pattern = narrow(row)?;
+    let (path, pattern) = path_and_number(row)?;
     let content = Content::decode(row.second, row.third, row.fourth)?;
     Some(Verb::Change {
         path,
@@ -123,39 +114,19 @@ fn change(row: CommandRow) -> Option<Verb>
     })
 }
 
-fn enable(row: CommandRow) -> Option<Verb>
-    ensures answer { result ≡ enable_of row }
-{
-    let path = named_by(row)?;
-    let role = narrow(row)?;
-    Some(Verb::Enable { path, role })
-}
-
-fn disable(row: CommandRow) -> Option<Verb>
-    ensures answer { result ≡ disable_of row }
-{
-    let path = named_by(row)?;
-    let role = narrow(row)?;
-    Some(Verb::Disable { path, role })
-}
-
 impl Verb {
     pub fn decode(row: CommandRow) -> Option<Verb>
         ensures answer { result ≡ verb_of row }
     {
-        if row.verb == 5 {
-            return change(row);
-        }
-        if !only_first(row) {
-            return None;
-        }
         match row.verb {
+            5 => change(row),
+            _ if !only_first(row) => None,
             1 => fork(row),
             2 => go(row),
             3 => run(row),
-            4 => read(row),
-            6 => enable(row),
-            7 => disable(row),
+            4 => path_and_number(row).map(|(path, pattern)| Verb::Read { path, pattern }),
+            6 => path_and_number(row).map(|(path, role)| Verb::Enable { path, role }),
+            7 => path_and_number(row).map(|(path, role)| Verb::Disable { path, role }),
             _ => None,
         }
     }

@@ -4,6 +4,6 @@
 mod row;
 
 pub use row::{
-    CommandRow, EdgeRow, GrantRow, JobRow, LocationRow, PathStepRow, PatternRow, PolicyRow,
-    TemplateRow, TreeLine, field_at,
+    CommandRow, EdgeRow, GrantRow, JobRow, LocationRow, Numbered, PathStepRow, PatternRow,
+    PolicyRow, TemplateRow, TreeLine, field_at,
 };

@@ -1,6 +1,6 @@
 // The rows that lines spell, with named fields of the right widths. A stretch that the reader handed out always decodes; of
 // any other bytes, a field is 0 where no number stands.
-ghost use Rattle.std.specs.Prelude.{◌≡◌, ◌≤◌};
+ghost use Rattle.std.specs.Prelude.{◌≡◌, ℕ, ◌≤◌};
 ghost use Rattle.number.specs.declared.reading.Width.TheVariants.{Narrow, Wide};
 ghost use Rattle.number.specs.Spelling.{limit_of};
 ghost use Rattle.sheet.specs.Fields.{field_at};
@@ -85,7 +85,32 @@ pub struct JobRow {
     pub command: u32,
 }
 
+// A row that stands among others under a number: a step in its path, a line in its template.
+pub trait Numbered {
+    ghost number: { Self → ℕ };
+
+    fn number(&self) -> u32
+        ensures answer { result ≡ number self.now };
+}
+
+impl Numbered for PathStepRow {
+    ghost number = { λ step. step.path };
+
+    fn number(&self) -> u32 {
+        self.path
+    }
+}
+
+impl Numbered for TemplateRow {
+    ghost number = { λ line. line.template };
+
+    fn number(&self) -> u32 {
+        self.template
+    }
+}
+
 // The number at the place, and where the bytes behind it begin; 0 where none stands.
+#[tactic(auto, unfolding(sheet::specs::Fields::field_at))]
 pub fn field_at(bytes: &[u8], at: usize, width: Width) -> (u64, usize)
     ensures answer { result ≡ field_at width at bytes.now }
     ensures within { result.0 ≤ limit_of width }
@@ -96,25 +121,69 @@ pub fn field_at(bytes: &[u8], at: usize, width: Width) -> (u64, usize)
     }
 }
 
-fn wide(bytes: &[u8], at: usize) -> (u64, usize)
-    ensures answer { result ≡ field_at Wide at bytes.now }
-{
-    field_at(bytes, at, Width::Wide)
+// The fields of a stretch that are still to be read: they begin at the place.
+#[derive(Clone, Copy)]
+struct Fields<'a> {
+    bytes: &'a [u8],
+    at: usize,
 }
 
-fn narrow(bytes: &[u8], at: usize) -> (u32, usize)
-    ensures answer { result ≡ field_at Narrow at bytes.now }
-{
-    let (value, next) = field_at(bytes, at, Width::Narrow);
-    (value as u32, next)
+impl<'a> Fields<'a> {
+    // All the fields of a stretch.
+    fn new(bytes: &'a [u8]) -> Fields<'a>
+        ensures bytes { result.bytes.now ≡ bytes.now }
+        ensures at { result.at ≡ 0 }
+    {
+        Fields { bytes, at: 0 }
+    }
+
+    // The next field.
+    fn next(&mut self, width: Width) -> u64
+        ensures answer { result ≡ (field_at width self.old.at self.old.bytes.now).0 }
+        ensures after { self.new ≡ record self.old { at = (field_at width self.old.at self.old.bytes.now).1 } }
+        ensures within { result ≤ limit_of width }
+    {
+        let (value, next) = field_at(self.bytes, self.at, width);
+        self.at = next;
+        value
+    }
+
+    fn wide(&mut self) -> u64
+        ensures answer { result ≡ (field_at Wide self.old.at self.old.bytes.now).0 }
+        ensures after { self.new ≡ record self.old { at = (field_at Wide self.old.at self.old.bytes.now).1 } }
+    {
+        self.next(Width::Wide)
+    }
+
+    fn narrow(&mut self) -> u32
+        ensures answer { result ≡ (field_at Narrow self.old.at self.old.bytes.now).0 }
+        ensures after { self.new ≡ record self.old { at = (field_at Narrow self.old.at self.old.bytes.now).1 } }
+    {
+        self.next(Width::Narrow) as u32
+    }
+
+    // The fields of an edge or a template line behind the first.
+    fn tree_line(&mut self) -> TreeLine
+        ensures answer { result ≡ tree_line_at self.old.at self.old.bytes.now }
+    {
+        TreeLine {
+            depth: self.narrow(),
+            label: self.narrow(),
+            set: self.wide(),
+            content: self.narrow(),
+            first: self.narrow(),
+            second: self.narrow(),
+        }
+    }
 }
 
 impl PolicyRow {
     pub fn decode(stretch: &[u8]) -> PolicyRow
         ensures answer { result ≡ policy_row stretch.now }
     {
-        let (least, _) = wide(stretch, 0);
-        PolicyRow { least }
+        PolicyRow {
+            least: Fields::new(stretch).wide(),
+        }
     }
 }
 
@@ -122,15 +191,12 @@ impl GrantRow {
     pub fn decode(stretch: &[u8]) -> GrantRow
         ensures answer { result ≡ grant_row stretch.now }
     {
-        let (policy, at) = narrow(stretch, 0);
-        let (direction, at) = narrow(stretch, at);
-        let (holder, at) = wide(stretch, at);
-        let (role, _) = narrow(stretch, at);
+        let mut fields = Fields::new(stretch);
         GrantRow {
-            policy,
-            direction,
-            holder,
-            role,
+            policy: fields.narrow(),
+            direction: fields.narrow(),
+            holder: fields.wide(),
+            role: fields.narrow(),
         }
     }
 }
@@ -139,8 +205,9 @@ impl LocationRow {
     pub fn decode(stretch: &[u8]) -> LocationRow
         ensures answer { result ≡ location_row stretch.now }
     {
-        let (policy, _) = narrow(stretch, 0);
-        LocationRow { policy }
+        LocationRow {
+            policy: Fields::new(stretch).narrow(),
+        }
     }
 }
 
@@ -148,30 +215,12 @@ impl PathStepRow {
     pub fn decode(stretch: &[u8]) -> PathStepRow
         ensures answer { result ≡ path_step_row stretch.now }
     {
-        let (path, at) = narrow(stretch, 0);
-        let (label, at) = narrow(stretch, at);
-        let (set, _) = wide(stretch, at);
-        PathStepRow { path, label, set }
-    }
-}
-
-// The fields of an edge or a template line behind the first.
-fn tree_line(stretch: &[u8], at: usize) -> TreeLine
-    ensures answer { result ≡ tree_line_at at stretch.now }
-{
-    let (depth, at) = narrow(stretch, at);
-    let (label, at) = narrow(stretch, at);
-    let (set, at) = wide(stretch, at);
-    let (content, at) = narrow(stretch, at);
-    let (first, at) = narrow(stretch, at);
-    let (second, _) = narrow(stretch, at);
-    TreeLine {
-        depth,
-        label,
-        set,
-        content,
-        first,
-        second,
+        let mut fields = Fields::new(stretch);
+        PathStepRow {
+            path: fields.narrow(),
+            label: fields.narrow(),
+            set: fields.wide(),
+        }
     }
 }
 
@@ -179,9 +228,11 @@ impl EdgeRow {
     pub fn decode(stretch: &[u8]) -> EdgeRow
         ensures answer { result ≡ edge_row stretch.now }
     {
-        let (location, at) = narrow(stretch, 0);
-        let line = tree_line(stretch, at);
-        EdgeRow { location, line }
+        let mut fields = Fields::new(stretch);
+        EdgeRow {
+            location: fields.narrow(),
+            line: fields.tree_line(),
+        }
     }
 }
 
@@ -189,9 +240,11 @@ impl TemplateRow {
     pub fn decode(stretch: &[u8]) -> TemplateRow
         ensures answer { result ≡ template_row stretch.now }
     {
-        let (template, at) = narrow(stretch, 0);
-        let line = tree_line(stretch, at);
-        TemplateRow { template, line }
+        let mut fields = Fields::new(stretch);
+        TemplateRow {
+            template: fields.narrow(),
+            line: fields.tree_line(),
+        }
     }
 }
 
@@ -199,17 +252,13 @@ impl PatternRow {
     pub fn decode(stretch: &[u8]) -> PatternRow
         ensures answer { result ≡ pattern_row stretch.now }
     {
-        let (kind, at) = narrow(stretch, 0);
-        let (slot, at) = narrow(stretch, at);
-        let (policy, at) = narrow(stretch, at);
-        let (first, at) = wide(stretch, at);
-        let (second, _) = wide(stretch, at);
+        let mut fields = Fields::new(stretch);
         PatternRow {
-            kind,
-            slot,
-            policy,
-            first,
-            second,
+            kind: fields.narrow(),
+            slot: fields.narrow(),
+            policy: fields.narrow(),
+            first: fields.wide(),
+            second: fields.wide(),
         }
     }
 }
@@ -218,13 +267,11 @@ impl JobRow {
     pub fn decode(stretch: &[u8]) -> JobRow
         ensures answer { result ≡ job_row stretch.now }
     {
-        let (policy, at) = narrow(stretch, 0);
-        let (roles, at) = wide(stretch, at);
-        let (command, _) = narrow(stretch, at);
+        let mut fields = Fields::new(stretch);
         JobRow {
-            policy,
-            roles,
-            command,
+            policy: fields.narrow(),
+            roles: fields.wide(),
+            command: fields.narrow(),
         }
     }
 }
@@ -233,23 +280,16 @@ impl CommandRow {
     pub fn decode(stretch: &[u8]) -> CommandRow
         ensures answer { result ≡ command_row stretch.now }
     {
-        let (verb, at) = narrow(stretch, 0);
-        let (next, at) = narrow(stretch, at);
-        let (operand_kind, at) = narrow(stretch, at);
-        let (operand, at) = narrow(stretch, at);
-        let (first, at) = wide(stretch, at);
-        let (second, at) = narrow(stretch, at);
-        let (third, at) = narrow(stretch, at);
-        let (fourth, _) = narrow(stretch, at);
+        let mut fields = Fields::new(stretch);
         CommandRow {
-            verb,
-            next,
-            operand_kind,
-            operand,
-            first,
-            second,
-            third,
-            fourth,
+            verb: fields.narrow(),
+            next: fields.narrow(),
+            operand_kind: fields.narrow(),
+            operand: fields.narrow(),
+            first: fields.wide(),
+            second: fields.narrow(),
+            third: fields.narrow(),
+            fourth: fields.narrow(),
         }
     }
 }

@@ -1,6 +1,6 @@
 -- Nothing is told of the trees exactly when each stands.
-use Rattle.std.proofs.Common.{◌≡◌, ℕ, ◌+◌, ◌<◌, ◌≤◌, cond, eqb, ltb, leb, List, [], length, get_or, take, drop, Some, None, Option, sym, refl, subst, inl, inr, arith}
-use Rattle.std.proofs.lemmas.Bool.{cases_eq, cases_lt, cond-true, cond-false, eq-eqb, ne_eqb, lt-ltb, le-ltb, le-leb}
+use Rattle.std.proofs.Common.{◌≡◌, ℕ, ◌+◌, ◌<◌, ◌≤◌, cond, eqb, ltb, List, [], length, get_or, take, drop, Some, None, Option, sym, refl, subst, inl, inr, arith}
+use Rattle.std.proofs.lemmas.Bool.{cases_eq, cases_lt, cond-true, cond-false, eq-eqb, ne_eqb, lt-ltb, le-ltb}
 use Rattle.rows.specs.declared.row.TreeLine.{TreeLine}
 use Rattle.layout.specs.declared.held.Table.{Table}
 use Rattle.layout.specs.Held.{in_use}
@@ -18,7 +18,10 @@ use Rattle.shape.specs.Place.{shifted, bad_tree, base_after, tree_fault, trees_f
 use Rattle.shape.specs.Shape.{Zeros, TreeAt}
 
 pub within-is : (count limit : ℕ) → count ≤ limit → within count limit ≡ count
-within-is count limit h = cond-true (leb count limit) count limit (le-leb count limit h)
+within-is count limit h = omega arith
+
+pub within-small : (count limit : ℕ) → within count limit ≤ limit
+within-small count limit = omega arith
 
 shifted-tells : {P : Type 0} (base : ℕ) (o : Option ℕ) → Tells o P → Tells (shifted base o) P
 shifted-tells base o t = map_tells (shifted base) refl (λ i. (base + i, refl)) o t

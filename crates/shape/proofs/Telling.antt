@@ -2,9 +2,12 @@
 use Rattle.std.proofs.Common.{◌≡◌, ℕ, ◌<◌, Bool, ◌&&◌, eqb, List, length, get_or, drop, Decides, Option, refl, arith}
 use Rattle.std.proofs.lemmas.Bool.Decides.{Decides-eqb, Decides-and, Decides-like}
 use Rattle.order.specs.RoleSets.{InUse}
+use Rattle.sheet.specs.declared.kinds.LineKind.TheVariants as kind
 use Rattle.layout.specs.declared.held.Table.{Table}
 use Rattle.layout.specs.declared.memory.RunningRow.{RunningRow}
 use Rattle.layout.specs.declared.memory.Tables.{Tables}
+use Rattle.layout.specs.declared.kind.TableKind.{TableKind}
+use Rattle.layout.specs.declared.kind.TableKind.TheVariants as kinds
 use Rattle.layout.specs.Held.{in_use}
 use Rattle.layout.specs.Zeros.{policy0, grant0, location0, step0, line0, template0, pattern0, command0, job0, slot0, no_running, no_tree}
 use Rattle.meaning.specs.Decoding.{pattern_of}
@@ -24,8 +27,7 @@ use Rattle.shape.specs.declared.place.Stage.{Stage}
 use Rattle.shape.specs.declared.place.Stage.TheVariants.{Draft, Live}
 use Rattle.shape.specs.Place.{rest_fault, table_fault, plain_fault, edges_fault, shelf_fault, placed, in_draft, ground_fault, program_fault, moving_fault, first_place}
 use Rattle.shape.specs.Shape.{Zeros, TableStands, TreeAt, total, ShelfStands, Still, Shaped}
-use Rattle.shape.proofs.Rows.{within-small}
-use Rattle.shape.proofs.Forest.{edges_tell}
+use Rattle.shape.proofs.Forest.{within-small, edges_tell}
 use Rattle.shape.proofs.Shelving.{shelf_fault-tells}
 
 -- a table, by what is told of its own rows and of those past the last
@@ -50,7 +52,7 @@ plain_tells : {X : Type 0} {n : ℕ} (passes : X → Bool) (P : X → Type 0) (z
 plain_tells passes P zeroed z limit t d dz =
     table-tells (λ (b : Unit {0}) i x. passes x) (λ b x. b) tt zeroed limit t (Each P z) (Zeros z) (each_tells passes P z d 0 (in_use t)) (zeros_tell zeroed z dz t)
 
-placed-tells : {P : Type 0} (table : ℕ) (o : Option ℕ) → Tells o P → Tells (placed table o) P
+placed-tells : {P : Type 0} (table : TableKind) (o : Option ℕ) → Tells o P → Tells (placed table o) P
 placed-tells table o t = map_tells (placed table) refl (λ i. (record { table = table; row = i }, refl)) o t
 
 Decides-running0 : (x : RunningRow) → Decides (running_zero x) (RunningClear x)
@@ -179,24 +181,24 @@ module _ (count top : ℕ) (t : Tables) where
 
   ground_tells : Tells (ground_fault S t) (Policies × (Grants × (Locations × (Steps × Edges))))
   ground_tells =
-      or_tells (placed 1 policies_fault) (or_else (placed 2 grants_fault) (or_else (placed 3 locations_fault) (or_else (placed 4 steps_fault) (placed 5 edge_rows_fault)))) (placed-tells 1 policies_fault policies_tell)
-      (λ _. or_tells (placed 2 grants_fault) (or_else (placed 3 locations_fault) (or_else (placed 4 steps_fault) (placed 5 edge_rows_fault))) (placed-tells 2 grants_fault grants_tell)
-      (λ _. or_tells (placed 3 locations_fault) (or_else (placed 4 steps_fault) (placed 5 edge_rows_fault)) (placed-tells 3 locations_fault locations_tell)
-      (λ _. or_tells (placed 4 steps_fault) (placed 5 edge_rows_fault) (placed-tells 4 steps_fault steps_fault-tells)
-      (λ _. placed-tells 5 edge_rows_fault (edges_tell S t.trees)))))
+      or_tells (placed (kinds.Lines kind.Policy) policies_fault) (or_else (placed (kinds.Lines kind.Grant) grants_fault) (or_else (placed (kinds.Lines kind.Location) locations_fault) (or_else (placed (kinds.Lines kind.PathStep) steps_fault) (placed (kinds.Lines kind.Edge) edge_rows_fault)))) (placed-tells (kinds.Lines kind.Policy) policies_fault policies_tell)
+      (λ _. or_tells (placed (kinds.Lines kind.Grant) grants_fault) (or_else (placed (kinds.Lines kind.Location) locations_fault) (or_else (placed (kinds.Lines kind.PathStep) steps_fault) (placed (kinds.Lines kind.Edge) edge_rows_fault))) (placed-tells (kinds.Lines kind.Grant) grants_fault grants_tell)
+      (λ _. or_tells (placed (kinds.Lines kind.Location) locations_fault) (or_else (placed (kinds.Lines kind.PathStep) steps_fault) (placed (kinds.Lines kind.Edge) edge_rows_fault)) (placed-tells (kinds.Lines kind.Location) locations_fault locations_tell)
+      (λ _. or_tells (placed (kinds.Lines kind.PathStep) steps_fault) (placed (kinds.Lines kind.Edge) edge_rows_fault) (placed-tells (kinds.Lines kind.PathStep) steps_fault steps_fault-tells)
+      (λ _. placed-tells (kinds.Lines kind.Edge) edge_rows_fault (edges_tell S t.trees)))))
 
   program_tells : Tells (program_fault S t) (Templates × (Patterns × (Commands × Jobs)))
   program_tells =
-      or_tells (placed 6 templates_fault) (or_else (placed 7 patterns_fault) (or_else (placed 8 commands_fault) (placed 9 jobs_fault))) (placed-tells 6 templates_fault templates_fault-tells)
-      (λ _. or_tells (placed 7 patterns_fault) (or_else (placed 8 commands_fault) (placed 9 jobs_fault)) (placed-tells 7 patterns_fault patterns_tell)
-      (λ _. or_tells (placed 8 commands_fault) (placed 9 jobs_fault) (placed-tells 8 commands_fault commands_fault-tells)
-      (λ _. placed-tells 9 jobs_fault jobs_tell)))
+      or_tells (placed (kinds.Lines kind.TemplateLine) templates_fault) (or_else (placed (kinds.Lines kind.Pattern) patterns_fault) (or_else (placed (kinds.Lines kind.Command) commands_fault) (placed (kinds.Lines kind.Job) jobs_fault))) (placed-tells (kinds.Lines kind.TemplateLine) templates_fault templates_fault-tells)
+      (λ _. or_tells (placed (kinds.Lines kind.Pattern) patterns_fault) (or_else (placed (kinds.Lines kind.Command) commands_fault) (placed (kinds.Lines kind.Job) jobs_fault)) (placed-tells (kinds.Lines kind.Pattern) patterns_fault patterns_tell)
+      (λ _. or_tells (placed (kinds.Lines kind.Command) commands_fault) (placed (kinds.Lines kind.Job) jobs_fault) (placed-tells (kinds.Lines kind.Command) commands_fault commands_fault-tells)
+      (λ _. placed-tells (kinds.Lines kind.Job) jobs_fault jobs_tell)))
 
   moving_tells : (stage : Stage) → Tells (moving_fault S t stage) ((Empty stage t.running.count × Running) × (Empty stage t.shelf.trees.count × Shelf))
   moving_tells stage =
-      or_tells (placed 0 (in_draft stage t.running.count running_fault)) (placed 255 (in_draft stage t.shelf.trees.count shelves_fault))
-      (placed-tells 0 (in_draft stage t.running.count running_fault) (draft_tells stage t.running.count running_fault running_tells))
-      (λ _. placed-tells 255 (in_draft stage t.shelf.trees.count shelves_fault) (draft_tells stage t.shelf.trees.count shelves_fault (shelf_fault-tells S t.shelf)))
+      or_tells (placed kinds.Running (in_draft stage t.running.count running_fault)) (placed kinds.Shelf (in_draft stage t.shelf.trees.count shelves_fault))
+      (placed-tells kinds.Running (in_draft stage t.running.count running_fault) (draft_tells stage t.running.count running_fault running_tells))
+      (λ _. placed-tells kinds.Shelf (in_draft stage t.shelf.trees.count shelves_fault) (draft_tells stage t.shelf.trees.count shelves_fault (shelf_fault-tells S t.shelf)))
 
   still : (stage : Stage) → Empty stage t.running.count → Empty stage t.shelf.trees.count → Still stage t
   still Draft a b = (a, b)

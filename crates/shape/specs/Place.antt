@@ -1,9 +1,13 @@
 -- The first place out of shape: by the tables' kinds and rows, the running list and the shelf last.
 use Rattle.std.specs.Prelude.{ℕ, ◌+◌, ◌-◌, Bool, cond, ◌&&◌, List, take, drop, Some, None, Option, ◌==◌, nat_eq, nat_le, nat_lt}
+use Rattle.std.specs.Option.{option_map}
+use Rattle.sheet.specs.declared.kinds.LineKind.TheVariants as kind
 use Rattle.rows.specs.declared.row.TreeLine.{TreeLine}
 use Rattle.layout.specs.declared.held.Table.{Table}
 use Rattle.layout.specs.declared.memory.Shelf.{Shelf}
 use Rattle.layout.specs.declared.memory.Tables.{Tables}
+use Rattle.layout.specs.declared.kind.TableKind.{TableKind}
+use Rattle.layout.specs.declared.kind.TableKind.TheVariants as kinds
 use Rattle.layout.specs.Held.{in_use}
 use Rattle.scan.specs.Scan.{or_else, first_of, first_bad, scan, carried, clear}
 use Rattle.zeros.specs.Zeroed.{policy_zero, grant_zero, location_zero, step_zero, line_zero, template_zero, pattern_zero, command_zero, job_zero, running_zero}
@@ -30,8 +34,7 @@ plain_fault passes zeroed limit t = table_fault (λ (b : Unit {0}) i x. passes x
 -- ---- the trees of the locations: rows are numbered over all locations, and all rows in use come before the rest
 
 abbrev pub shifted : ℕ → Option ℕ → Option ℕ
-shifted base (Some i) = Some (base + i)
-shifted base None = None
+shifted base row = option_map (λ i. base + i) row
 
 abbrev pub bad_tree : Sizes → List TreeLine → Option ℕ
 bad_tree s lines = scan (λ b i x. line_passes home.Tree s b x) (λ b x. line_after x) root 0 lines
@@ -70,8 +73,7 @@ shelved_passes s shelved start lines =
 
 -- lines past the last tree are told where the next tree would be
 abbrev pub told_at : ℕ → Option ℕ → Option ℕ
-told_at row (Some i) = Some row
-told_at row None = None
+told_at row written = option_map (λ i. row) written
 
 abbrev pub shelf_end : Table ℕ 64 → ℕ
 shelf_end trees = carried shelf_after 0 (in_use trees)
@@ -87,9 +89,8 @@ shelf_fault s shelf = or_else (scan (λ start i lines. shelved_passes s shelf.li
 
 -- ---- all tables
 
-abbrev pub placed : ℕ → Option ℕ → Option Place
-placed table (Some row) = Some (record { table = table; row = row })
-placed table None = None
+abbrev pub placed : TableKind → Option ℕ → Option Place
+placed table row = option_map (λ i. record { table = table; row = i }) row
 
 -- in a draft a table that has to be empty is told at its first row
 abbrev pub in_draft : Stage → ℕ → Option ℕ → Option ℕ
@@ -98,23 +99,23 @@ in_draft Live count fault = fault
 
 abbrev pub ground_fault : Sizes → Tables → Option Place
 ground_fault s t =
-    or_else (placed 1 (plain_fault (policy_passes s) policy_zero 16 t.policies))
-    (or_else (placed 2 (plain_fault (grant_passes s) grant_zero 64 t.grants))
-    (or_else (placed 3 (plain_fault (location_passes s) location_zero 16 t.locations))
-    (or_else (placed 4 (table_fault (λ b i x. step_passes s b x) steps_after no_steps step_zero 256 t.steps))
-    (placed 5 (edges_fault s t.trees)))))
+    or_else (placed (kinds.Lines kind.Policy) (plain_fault (policy_passes s) policy_zero 16 t.policies))
+    (or_else (placed (kinds.Lines kind.Grant) (plain_fault (grant_passes s) grant_zero 64 t.grants))
+    (or_else (placed (kinds.Lines kind.Location) (plain_fault (location_passes s) location_zero 16 t.locations))
+    (or_else (placed (kinds.Lines kind.PathStep) (table_fault (λ b i x. step_passes s b x) steps_after no_steps step_zero 256 t.steps))
+    (placed (kinds.Lines kind.Edge) (edges_fault s t.trees)))))
 
 abbrev pub program_fault : Sizes → Tables → Option Place
 program_fault s t =
-    or_else (placed 6 (table_fault (λ b i x. template_passes s b x) (λ b x. lines_after x) no_lines template_zero 256 t.templates))
-    (or_else (placed 7 (plain_fault (pattern_passes s) pattern_zero 64 t.patterns))
-    (or_else (placed 8 (table_fault (command_passes s) named_after none_named command_zero 255 t.commands))
-    (placed 9 (plain_fault (job_passes s) job_zero 64 t.jobs))))
+    or_else (placed (kinds.Lines kind.TemplateLine) (table_fault (λ b i x. template_passes s b x) (λ b x. lines_after x) no_lines template_zero 256 t.templates))
+    (or_else (placed (kinds.Lines kind.Pattern) (plain_fault (pattern_passes s) pattern_zero 64 t.patterns))
+    (or_else (placed (kinds.Lines kind.Command) (table_fault (command_passes s) named_after none_named command_zero 255 t.commands))
+    (placed (kinds.Lines kind.Job) (plain_fault (job_passes s) job_zero 64 t.jobs))))
 
 abbrev pub moving_fault : Sizes → Tables → Stage → Option Place
 moving_fault s t stage =
-    or_else (placed 0 (in_draft stage t.running.count (plain_fault (running_passes s t.patterns.rows) running_zero 64 t.running)))
-    (placed 255 (in_draft stage t.shelf.trees.count (shelf_fault s t.shelf)))
+    or_else (placed kinds.Running (in_draft stage t.running.count (plain_fault (running_passes s t.patterns.rows) running_zero 64 t.running)))
+    (placed kinds.Shelf (in_draft stage t.shelf.trees.count (shelf_fault s t.shelf)))
 
 abbrev pub place_of : Sizes → Tables → Stage → Option Place
 place_of s t stage = or_else (ground_fault s t) (or_else (program_fault s t) (moving_fault s t stage))

@@ -8,43 +8,34 @@ use super::place::{Place, Stage, in_draft, placed};
 use super::shelves::shelf_fault;
 use super::table::table_fault;
 use super::trees::edges_fault;
+use layout::TableKind::{Lines, Running, Shelf};
 use layout::{Tables, sized};
 use order::Order;
+use sheet::LineKind;
 use standing::{Fillings, Sizes, sizes_of};
 
 // Policies to edges.
 fn ground_fault(names: &Sizes, t: &Tables) -> Option<Place>
     ensures answer { result ≡ ground_fault names.now t.now }
 {
-    if let Some(place) = placed(1, table_fault(names, &t.policies)) {
-        return Some(place);
-    }
-    if let Some(place) = placed(2, table_fault(names, &t.grants)) {
-        return Some(place);
-    }
-    if let Some(place) = placed(3, table_fault(names, &t.locations)) {
-        return Some(place);
-    }
-    if let Some(place) = placed(4, table_fault(names, &t.steps)) {
-        return Some(place);
-    }
-    placed(5, edges_fault(names, &t.trees))
+    placed(Lines(LineKind::Policy), table_fault(names, &t.policies))
+        .or_else(|| placed(Lines(LineKind::Grant), table_fault(names, &t.grants)))
+        .or_else(|| placed(Lines(LineKind::Location), table_fault(names, &t.locations)))
+        .or_else(|| placed(Lines(LineKind::PathStep), table_fault(names, &t.steps)))
+        .or_else(|| placed(Lines(LineKind::Edge), edges_fault(names, &t.trees)))
 }
 
 // Templates to jobs.
 fn program_fault(names: &Sizes, t: &Tables) -> Option<Place>
     ensures answer { result ≡ program_fault names.now t.now }
 {
-    if let Some(place) = placed(6, table_fault(names, &t.templates)) {
-        return Some(place);
-    }
-    if let Some(place) = placed(7, table_fault(names, &t.patterns)) {
-        return Some(place);
-    }
-    if let Some(place) = placed(8, table_fault(names, &t.commands)) {
-        return Some(place);
-    }
-    placed(9, table_fault(names, &t.jobs))
+    placed(
+        Lines(LineKind::TemplateLine),
+        table_fault(names, &t.templates),
+    )
+    .or_else(|| placed(Lines(LineKind::Pattern), table_fault(names, &t.patterns)))
+    .or_else(|| placed(Lines(LineKind::Command), table_fault(names, &t.commands)))
+    .or_else(|| placed(Lines(LineKind::Job), table_fault(names, &t.jobs)))
 }
 
 // The running list and the shelf.
@@ -56,23 +47,18 @@ fn moving_fault(names: &Sizes, t: &Tables, stage: Stage) -> Option<Place>
         patterns: &t.patterns.rows,
     };
     let running = in_draft(stage, t.running.count, table_fault(&fillings, &t.running));
-    if let Some(place) = placed(0, running) {
-        return Some(place);
-    }
-    let shelf = in_draft(stage, t.shelf.trees.count, shelf_fault(names, &t.shelf));
-    placed(255, shelf)
+    placed(Running, running).or_else(|| {
+        let shelf = shelf_fault(names, &t.shelf);
+        placed(Shelf, in_draft(stage, t.shelf.trees.count, shelf))
+    })
 }
 
 fn place_of(names: &Sizes, t: &Tables, stage: Stage) -> Option<Place>
     ensures answer { result ≡ place_of names.now t.now stage }
 {
-    if let Some(place) = ground_fault(names, t) {
-        return Some(place);
-    }
-    if let Some(place) = program_fault(names, t) {
-        return Some(place);
-    }
-    moving_fault(names, t, stage)
+    ground_fault(names, t)
+        .or_else(|| program_fault(names, t))
+        .or_else(|| moving_fault(names, t, stage))
 }
 
 fn first_place<O: Order>(t: &Tables, stage: Stage) -> Option<Place>

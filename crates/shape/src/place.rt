@@ -2,28 +2,26 @@
 ghost use Rattle.std.specs.Prelude.{◌≡◌};
 ghost use Rattle.shape.specs.Place.{placed, in_draft};
 
-// A table by its kind, 0 for the running list and 255 for the shelf, and a row of it, from 0: edges count over all
-// locations, the shelf by tree.
-#[derive(Clone, Copy)]
+use layout::TableKind;
+
+// A row of a table, from 0: edges count over all locations, the shelf by tree.
+#[derive(Clone, Copy, Debug, PartialEq, Eq)]
 pub struct Place {
-    pub table: u32,
+    pub table: TableKind,
     pub row: usize,
 }
 
 // A draft has no running jobs and no shelved trees.
-#[derive(Clone, Copy)]
+#[derive(Clone, Copy, Debug, PartialEq, Eq)]
 pub enum Stage {
     Draft,
     Live,
 }
 
-pub(crate) fn placed(table: u32, row: Option<usize>) -> Option<Place>
+pub(crate) fn placed(table: TableKind, row: Option<usize>) -> Option<Place>
     ensures answer { result ≡ placed table row }
 {
-    match row {
-        Some(row) => Some(Place { table, row }),
-        None => None,
-    }
+    row.map(|row| Place { table, row })
 }
 
 // In a draft a table that has to be empty is told at its first row.
@@ -31,7 +29,7 @@ pub(crate) fn in_draft(stage: Stage, count: usize, fault: Option<usize>) -> Opti
     ensures answer { result ≡ in_draft stage count fault }
 {
     match stage {
-        Stage::Draft => if 0 < count { Some(0) } else { fault },
-        Stage::Live => fault,
+        Stage::Draft if 0 < count => Some(0),
+        _ => fault,
     }
 }

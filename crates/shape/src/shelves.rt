@@ -5,15 +5,14 @@ ghost use Rattle.scan.specs.Scan.{carried};
 ghost use Rattle.shape.specs.declared.shelves.Shelved.{Shelved};
 ghost use Rattle.shape.specs.Place.{shelf_after, shelved_passes, shelf_end, shelf_rest, shelf_fault};
 
-use super::table::own_fault;
 use layout::{Shelf, Table};
 use rows::TreeLine;
 use scan::{Judged, first_fault};
-use standing::{Sizes, within};
+use standing::Sizes;
 use zeros::first_written;
 
 // What a shelved tree may name, and the lines of all of them.
-#[derive(Clone, Copy)]
+#[derive(Clone, Copy, Debug, PartialEq, Eq)]
 pub(crate) struct Shelved<'a> {
     pub(crate) sizes: Sizes,
     pub(crate) lines: &'a [TreeLine; 1024],
@@ -23,21 +22,16 @@ pub(crate) struct Shelved<'a> {
 fn shelf_after(start: usize, lines: usize) -> usize
     ensures answer { result ≡ shelf_after start lines }
 {
-    if start <= 1024 && lines <= 1024 - start {
-        start + lines
-    } else {
-        1024
-    }
+    start.saturating_add(lines).min(1024)
 }
 
 fn shelved_passes(names: &Sizes, shelved: &[TreeLine; 1024], start: usize, lines: usize) -> bool
     ensures answer { result ≡ shelved_passes names.now shelved.now start lines }
 {
-    if start <= 1024 && lines <= 1024 - start && lines <= 128 {
-        first_fault(names, &shelved[start..start + lines]).is_none()
-    } else {
-        false
-    }
+    start <= 1024
+        && lines <= 1024 - start
+        && lines <= 128
+        && first_fault(names, &shelved[start..start + lines]).is_none()
 }
 
 // A tree of the shelf is kept by how many lines it has; the trees before it say where it begins.
@@ -67,23 +61,14 @@ impl<'a> Judged<Shelved<'a>> for usize {
     }
 }
 
-// Where the last of these trees ends.
-fn end_of(trees: &[usize]) -> usize
-    ensures answer { result ≡ carried shelf_after 0 trees.now }
-{
-    let mut start = 0;
-    for i in 0..trees.len() {
-        start = shelf_after(start, trees[i]);
-    }
-    start
-}
-
+// Where the last of the trees ends.
 fn shelf_end(trees: &Table<usize, 64>) -> usize
     ensures answer { result ≡ shelf_end trees.now }
 {
-    let rows: &[usize] = &trees.rows;
-    let used = within(trees.count, rows.len());
-    end_of(&rows[..used])
+    trees
+        .in_use()
+        .iter()
+        .fold(0, |start, lines| shelf_after(start, *lines))
 }
 
 // Lines past the last tree are told where the next tree would be.
@@ -94,10 +79,9 @@ fn shelf_rest(shelf: &Shelf) -> Option<usize>
     if 64 < count {
         return Some(64);
     }
-    match first_written(&shelf.lines, shelf_end(&shelf.trees)) {
-        Some(_) => Some(count),
-        None => first_written(&shelf.trees.rows, count),
-    }
+    first_written(&shelf.lines, shelf_end(&shelf.trees))
+        .map(|_| count)
+        .or_else(|| first_written(&shelf.trees.rows, count))
 }
 
 pub(crate) fn shelf_fault(names: &Sizes, shelf: &Shelf) -> Option<usize>
@@ -107,8 +91,5 @@ pub(crate) fn shelf_fault(names: &Sizes, shelf: &Shelf) -> Option<usize>
         sizes: *names,
         lines: &shelf.lines,
     };
-    match own_fault(&shelved, &shelf.trees) {
-        Some(tree) => Some(tree),
-        None => shelf_rest(shelf),
-    }
+    first_fault(&shelved, shelf.trees.in_use()).or_else(|| shelf_rest(shelf))
 }

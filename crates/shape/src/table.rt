@@ -1,31 +1,24 @@
 // One table, of any kind of rows.
-ghost use Rattle.std.specs.Prelude.{◌≡◌, ◌<◌, IfSome};
-ghost use Rattle.layout.specs.Held.{in_use};
-ghost use Rattle.scan.specs.Scan.{scan};
-ghost use Rattle.shape.specs.Place.{table_fault};
+ghost use Rattle.std.specs.Prelude.{◌≡◌};
+ghost use Rattle.shape.specs.Place.{rest_fault, table_fault};
 
 use layout::Table;
 use scan::{Judged, first_fault};
-use standing::within;
 use zeros::{Zeroed, first_written};
 
-// The first row in use that does not stand.
-pub(crate) fn own_fault<Names, T: Judged<Names>, const N: usize>(
-    names: &Names,
-    table: &Table<T, N>,
-) -> Option<usize>
-where
-    T::Before: Drop,
-    ensures answer { result ≡ scan (λ b i x. T.Judged.passes names.now b i x) T.Judged.after T.Judged.first 0 (in_use table.now) }
-    ensures inside { IfSome result (λ i. i < N) }
+// The first row too many, else the first row past the last that is not zero.
+fn rest_fault<T: Zeroed, const N: usize>(table: &Table<T, N>) -> Option<usize>
+    ensures answer { result ≡ rest_fault T.zeroed N table.now }
 {
-    let rows: &[T] = &table.rows;
-    let used = within(table.count, rows.len());
-    first_fault(names, &rows[..used])
+    if N < table.count {
+        Some(N)
+    } else {
+        first_written(&table.rows, table.count)
+    }
 }
 
-// The first row in use that does not stand, else the first row too many, else the first row past the last that is not zero.
-pub(crate) fn table_fault<Names, T: Judged<Names> + Zeroed, const N: usize>(
+// The first row in use that does not stand, else the rest.
+pub(crate) fn table_fault<Names, T: Judged<Names> + Zeroed + Copy, const N: usize>(
     names: &Names,
     table: &Table<T, N>,
 ) -> Option<usize>
@@ -33,11 +26,8 @@ where
     T::Before: Drop,
     ensures answer { result ≡ table_fault (λ b i x. T.Judged.passes names.now b i x) T.Judged.after T.Judged.first T.Zeroed.zeroed N table.now }
 {
-    if let Some(row) = own_fault(names, table) {
-        return Some(row);
+    match first_fault(names, table.in_use()) {
+        Some(row) => Some(row),
+        None => rest_fault(table),
     }
-    if N < table.count {
-        return Some(N);
-    }
-    first_written(&table.rows, table.count)
 }

@@ -1,4 +1,5 @@
 pub mod Continuing
+pub mod LastRows
 pub mod Paths
 pub mod Rows
 pub mod Templates

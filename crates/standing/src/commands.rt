@@ -12,7 +12,7 @@ use rows::CommandRow;
 use scan::Judged;
 
 // Which commands the rows before have named as continuations.
-#[derive(Clone, Copy)]
+#[derive(Clone, Copy, Debug, PartialEq, Eq)]
 pub struct Named {
     pub flags: [bool; 256],
 }
@@ -68,14 +68,7 @@ fn onward(names: &Sizes, before: &Named, row: usize, to: u32) -> bool
     ensures answer { result ≡ onward names.now before.now row to }
 {
     let to = to as usize;
-    if to == 0 {
-        return true;
-    }
-    if row < to - 1 && to <= names.commands && to < 256 {
-        !before.flags[to]
-    } else {
-        false
-    }
+    to == 0 || (row < to - 1 && to <= names.commands && to < 256 && !before.flags[to])
 }
 
 fn continues(names: &Sizes, before: &Named, row: usize, command: CommandRow) -> bool
@@ -90,10 +83,7 @@ fn continues(names: &Sizes, before: &Named, row: usize, command: CommandRow) -> 
 fn known(names: &Sizes, row: CommandRow) -> bool
     ensures answer { result ≡ given (verb_of row) (verb_stands names.now) }
 {
-    match Verb::decode(row) {
-        Some(verb) => verb_stands(names, verb),
-        None => false,
-    }
+    Verb::decode(row).is_some_and(|verb| verb_stands(names, verb))
 }
 
 fn mark(flags: &mut [bool; 256], to: u32)

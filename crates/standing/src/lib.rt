@@ -12,5 +12,5 @@ mod tables;
 pub use commands::Named;
 pub use lines::{LineBefore, LinesBefore};
 pub use running::Fillings;
-pub use sizes::{Sizes, sizes_of, within};
+pub use sizes::{Sizes, sizes_of};
 pub use steps::StepsBefore;

@@ -12,21 +12,21 @@ use rows::{TemplateRow, TreeLine};
 use scan::Judged;
 
 // Where a line lies.
-#[derive(Clone, Copy)]
+#[derive(Clone, Copy, Debug, PartialEq, Eq)]
 pub enum Home {
     Tree,
     Template,
 }
 
 // The depth of the line before, and whether lines may lie under it.
-#[derive(Clone, Copy)]
+#[derive(Clone, Copy, Debug, PartialEq, Eq)]
 pub struct LineBefore {
     pub depth: u32,
     pub branch: bool,
 }
 
 // How many templates there are so far, and the last line of the last of them.
-#[derive(Clone, Copy)]
+#[derive(Clone, Copy, Debug, PartialEq, Eq)]
 pub struct LinesBefore {
     pub templates: usize,
     pub line: LineBefore,
@@ -41,11 +41,9 @@ const ROOT: LineBefore = LineBefore {
 fn deep_enough(before: LineBefore, depth: u32) -> bool
     ensures answer { result ≡ (nat_le 1 depth && (nat_le depth 12 && follows before depth)) }
 {
-    if 1 <= depth && depth <= 12 {
-        depth <= before.depth || (before.branch && depth - 1 == before.depth)
-    } else {
-        false
-    }
+    1 <= depth
+        && depth <= 12
+        && (depth <= before.depth || (before.branch && depth - 1 == before.depth))
 }
 
 // Whether what the content names exists.
@@ -69,10 +67,7 @@ fn belongs(home: Home, content: Content) -> bool
     ensures answer { result ≡ belongs home content }
 {
     match content {
-        Content::Held { .. } => match home {
-            Home::Tree => false,
-            Home::Template => true,
-        },
+        Content::Held { .. } => home == Home::Template,
         Content::Template { .. } => false,
         _ => true,
     }
@@ -81,10 +76,9 @@ fn belongs(home: Home, content: Content) -> bool
 fn content_passes(home: Home, names: &Sizes, line: TreeLine) -> bool
     ensures answer { result ≡ content_passes home names.now line }
 {
-    match Content::decode(line.content, line.first, line.second) {
-        Some(content) => belongs(home, content) && content_stands(names, content),
-        None => false,
-    }
+    Content::decode(line.content, line.first, line.second).is_some_and(|content| belongs(
+        home, content,
+    ) && content_stands(names, content))
 }
 
 fn line_passes(home: Home, names: &Sizes, before: LineBefore, line: TreeLine) -> bool
@@ -147,10 +141,10 @@ impl Judged<Sizes> for TemplateRow {
         let template = self.template as usize;
         if template + 1 == before.templates {
             line_passes(Home::Template, names, before.line, self.line)
-        } else if template == before.templates && before.templates < 32 {
-            line_passes(Home::Template, names, ROOT, self.line)
         } else {
-            false
+            template == before.templates
+                && before.templates < 32
+                && line_passes(Home::Template, names, ROOT, self.line)
         }
     }
 

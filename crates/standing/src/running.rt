@@ -8,10 +8,10 @@ use layout::{RunningRow, Slot};
 use meaning::Pattern;
 use order::in_use_of;
 use rows::PatternRow;
-use scan::{Judged, first_fault};
+use scan::{Stands, first_fault};
 
 // What a slot may name, and the patterns that fill slots.
-#[derive(Clone, Copy)]
+#[derive(Clone, Copy, Debug, PartialEq, Eq)]
 pub struct Fillings<'a> {
     pub sizes: Sizes,
     pub patterns: &'a [PatternRow; 64],
@@ -40,64 +40,30 @@ fn slot_passes(sizes: &Sizes, patterns: &[PatternRow; 64], slot: usize, held: Sl
     if filled == 0 {
         return held.value == 0;
     }
-    if filled > sizes.patterns || filled > 64 {
-        return false;
-    }
-    match Pattern::decode(patterns[filled - 1]) {
-        Some(pattern) => part_stands(sizes, pattern, slot, held.value),
-        None => false,
-    }
+    filled <= sizes.patterns
+        && filled <= 64
+        && Pattern::decode(patterns[filled - 1]).is_some_and(|pattern| part_stands(
+            sizes, pattern, slot, held.value,
+        ))
 }
 
-impl<'a> Judged<Fillings<'a>> for Slot {
-    type Before = ();
+impl<'a> Stands<Fillings<'a>> for Slot {
+    ghost stands = { λ f i x. slot_passes f.sizes f.patterns.now i x };
 
-    ghost first = { tt };
-
-    ghost passes = { λ f b i x. slot_passes f.sizes f.patterns.now i x };
-
-    ghost after = { λ b x. b };
-
-    fn before_all() -> ()
-        ensures answer { result ≡ tt }
-    {}
-
-    fn passes(&self, names: &Fillings<'a>, _before: &(), row: usize) -> bool {
+    fn stands(&self, names: &Fillings<'a>, row: usize) -> bool {
         slot_passes(&names.sizes, names.patterns, row, *self)
     }
-
-    fn note(&self, before: &mut ())
-        ensures after { before.new ≡ before.old }
-    {}
 }
 
-impl<'a> Judged<Fillings<'a>> for RunningRow {
-    type Before = ();
+impl<'a> Stands<Fillings<'a>> for RunningRow {
+    ghost stands = { λ f i x. running_passes f.sizes f.patterns.now x };
 
-    ghost first = { tt };
-
-    ghost passes = { λ f b i x. running_passes f.sizes f.patterns.now x };
-
-    ghost after = { λ b x. b };
-
-    fn before_all() -> ()
-        ensures answer { result ≡ tt }
-    {}
-
-    fn passes(&self, names: &Fillings<'a>, _before: &(), _row: usize) -> bool {
+    fn stands(&self, names: &Fillings<'a>, _row: usize) -> bool {
         let sizes = names.sizes;
-        if (self.location as usize) < sizes.locations
+        (self.location as usize) < sizes.locations
             && 0 < self.command
             && (self.command as usize) <= sizes.commands
             && in_use_of(sizes.roles, self.roles)
-        {
-            first_fault(names, &self.slots).is_none()
-        } else {
-            false
-        }
+            && first_fault(names, &self.slots).is_none()
     }
-
-    fn note(&self, before: &mut ())
-        ensures after { before.new ≡ before.old }
-    {}
 }

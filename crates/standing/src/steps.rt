@@ -9,7 +9,7 @@ use rows::PathStepRow;
 use scan::Judged;
 
 // How many paths there are so far, and how many steps the last of them has.
-#[derive(Clone, Copy)]
+#[derive(Clone, Copy, Debug, PartialEq, Eq)]
 pub struct StepsBefore {
     pub paths: usize,
     pub run: u32,
@@ -18,12 +18,10 @@ pub struct StepsBefore {
 fn run_after(before: StepsBefore, step: PathStepRow) -> u32
     ensures answer { result ≡ run_after before step }
 {
-    if step.path as usize + 1 != before.paths {
-        1
-    } else if before.run < 8 {
-        before.run + 1
+    if step.path as usize + 1 == before.paths {
+        before.run.min(7) + 1
     } else {
-        8
+        1
     }
 }
 

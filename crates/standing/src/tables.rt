@@ -4,71 +4,37 @@ ghost use Rattle.meaning.specs.declared.patterns.Pattern.{Pattern};
 ghost use Rattle.standing.specs.Tests.{policy_passes, grant_passes, location_passes, pattern_stands, pattern_passes, job_passes};
 
 use super::sizes::Sizes;
-use meaning::Pattern;
+use meaning::{Direction, Pattern};
 use order::in_use_of;
 use rows::{GrantRow, JobRow, LocationRow, PatternRow, PolicyRow};
-use scan::Judged;
+use scan::Stands;
 
-impl Judged<Sizes> for PolicyRow {
-    type Before = ();
+impl Stands<Sizes> for PolicyRow {
+    ghost stands = { λ s i x. policy_passes s x };
 
-    ghost first = { tt };
-
-    ghost passes = { λ s b i x. policy_passes s x };
-
-    ghost after = { λ b x. b };
-
-    fn before_all() -> () {}
-
-    fn passes(&self, names: &Sizes, _before: &(), _row: usize) -> bool {
+    fn stands(&self, names: &Sizes, _row: usize) -> bool {
         in_use_of(names.roles, self.least)
     }
-
-    fn note(&self, _before: &mut ()) {}
 }
 
-impl Judged<Sizes> for GrantRow {
-    type Before = ();
+impl Stands<Sizes> for GrantRow {
+    ghost stands = { λ s i x. grant_passes s x };
 
-    ghost first = { tt };
-
-    ghost passes = { λ s b i x. grant_passes s x };
-
-    ghost after = { λ b x. b };
-
-    fn before_all() -> () {}
-
-    fn passes(&self, names: &Sizes, _before: &(), _row: usize) -> bool {
-        if (self.policy as usize) < names.policies
-            && self.direction <= 1
+    fn stands(&self, names: &Sizes, _row: usize) -> bool {
+        (self.policy as usize) < names.policies
+            && Direction::try_from(self.direction).is_ok()
             && self.role < names.roles
-        {
-            in_use_of(names.roles, self.holder)
-        } else {
-            false
-        }
+            && in_use_of(names.roles, self.holder)
     }
-
-    fn note(&self, _before: &mut ()) {}
 }
 
-impl Judged<Sizes> for LocationRow {
-    type Before = ();
+impl Stands<Sizes> for LocationRow {
+    ghost stands = { λ s i x. location_passes s x };
 
-    ghost first = { tt };
-
-    ghost passes = { λ s b i x. location_passes s x };
-
-    ghost after = { λ b x. b };
-
-    fn before_all() -> () {}
-
-    fn passes(&self, names: &Sizes, _before: &(), _row: usize) -> bool {
+    fn stands(&self, names: &Sizes, _row: usize) -> bool {
         let policy = self.policy as usize;
         policy < names.policies
     }
-
-    fn note(&self, _before: &mut ()) {}
 }
 
 fn pattern_stands(names: &Sizes, pattern: Pattern) -> bool
@@ -78,11 +44,7 @@ fn pattern_stands(names: &Sizes, pattern: Pattern) -> bool
         Pattern::Number { slot } => slot < 6,
         Pattern::Script { slot, policy } => slot < 6 && (policy as usize) < names.policies,
         Pattern::Pointer { slot, policy, last } => {
-            if slot < 5 && (policy as usize) < names.policies {
-                in_use_of(names.roles, last)
-            } else {
-                false
-            }
+            slot < 5 && (policy as usize) < names.policies && in_use_of(names.roles, last)
         }
         Pattern::Tree {
             slot,
@@ -90,57 +52,29 @@ fn pattern_stands(names: &Sizes, pattern: Pattern) -> bool
             top,
             all,
         } => {
-            if slot < 6 && (policy as usize) < names.policies {
-                in_use_of(names.roles, top) && in_use_of(names.roles, all)
-            } else {
-                false
-            }
+            slot < 6
+                && (policy as usize) < names.policies
+                && in_use_of(names.roles, top)
+                && in_use_of(names.roles, all)
         }
     }
 }
 
-impl Judged<Sizes> for PatternRow {
-    type Before = ();
+impl Stands<Sizes> for PatternRow {
+    ghost stands = { λ s i x. pattern_passes s x };
 
-    ghost first = { tt };
-
-    ghost passes = { λ s b i x. pattern_passes s x };
-
-    ghost after = { λ b x. b };
-
-    fn before_all() -> () {}
-
-    fn passes(&self, names: &Sizes, _before: &(), _row: usize) -> bool {
-        match Pattern::decode(*self) {
-            Some(pattern) => pattern_stands(names, pattern),
-            None => false,
-        }
+    fn stands(&self, names: &Sizes, _row: usize) -> bool {
+        Pattern::decode(*self).is_some_and(|pattern| pattern_stands(names, pattern))
     }
-
-    fn note(&self, _before: &mut ()) {}
 }
 
-impl Judged<Sizes> for JobRow {
-    type Before = ();
+impl Stands<Sizes> for JobRow {
+    ghost stands = { λ s i x. job_passes s x };
 
-    ghost first = { tt };
-
-    ghost passes = { λ s b i x. job_passes s x };
-
-    ghost after = { λ b x. b };
-
-    fn before_all() -> () {}
-
-    fn passes(&self, names: &Sizes, _before: &(), _row: usize) -> bool {
-        if (self.policy as usize) < names.policies
+    fn stands(&self, names: &Sizes, _row: usize) -> bool {
+        (self.policy as usize) < names.policies
             && 0 < self.command
             && (self.command as usize) <= names.commands
-        {
-            in_use_of(names.roles, self.roles)
-        } else {
-            false
-        }
+            && in_use_of(names.roles, self.roles)
     }
-
-    fn note(&self, _before: &mut ()) {}
 }

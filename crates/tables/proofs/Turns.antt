@@ -1,12 +1,11 @@
 -- The lines filed so far, and those that are left.
-use Rattle.std.proofs.Common.{◌≡◌, ℕ, zero, suc, ◌+◌, ◌<◌, ◌≤◌, Bool, true, false, cond, List, [], ◌∷◌, map, length, get_or, replicate, Some, None, Ok, Err, Option, Result, sym, refl, ap, ◌∙◌, subst, arith}
+use Rattle.std.proofs.Common.{◌≡◌, ℕ, zero, suc, ◌+◌, ◌<◌, ◌≤◌, List, [], ◌∷◌, map, length, get_or, replicate, Some, None, Ok, Err, Option, Result, MatchResult, IsErrAnd, sym, refl, ap, ◌∙◌, subst, arith}
+use Rattle.std.proofs.lemmas.Result.{err_from_is_err_and}
 use Rattle.number.specs.declared.fault.ReadFault.{ReadFault}
 use Rattle.sheet.specs.declared.finding.Found.{Found}
 use Rattle.sheet.specs.declared.frame.Frame.{Frame}
 use Rattle.sheet.specs.declared.kinds.LineKind.{LineKind}
-use Rattle.sheet.specs.declared.kinds.LineKind.TheVariants as kind
 use Rattle.sheet.specs.Fields.{read_line, stretch}
-use Rattle.sheet.specs.Kinds.{code_of}
 use Rattle.sheet.specs.Laws.{Handed}
 use Rattle.sheet.specs.declared.line.PlacedLine.{PlacedLine}
 use Rattle.sheet.specs.Showing.{shows, seen, shown, line_at, place_after, frame_after, Moves}
@@ -16,9 +15,8 @@ use Rattle.layout.proofs.Back.{holds_network}
 use Rattle.filing.specs.declared.decoded.Row.{Row}
 use Rattle.filing.specs.declared.placing.Before.{Before}
 use Rattle.filing.specs.declared.placing.Misplaced.{Misplaced}
-use Rattle.filing.specs.declared.placing.Misplaced.TheVariants as misplaced
-use Rattle.filing.specs.Rows.{row_of, kind_number}
-use Rattle.filing.specs.Filing.{none_before, in_place, has_room, behind, placed, filed, network_after}
+use Rattle.filing.specs.Rows.{row_of}
+use Rattle.filing.specs.Filing.{none_before, placed, filed, network_after}
 use Rattle.tables.specs.declared.fault.LoadFault.{LoadFault}
 use Rattle.tables.specs.declared.fault.LoadFault.TheVariants.{Unreadable}
 use Rattle.tables.specs.Loading.{EndsAs, ReadsFrom, Reads, row_at, line_filed, and_then, loaded, sheet_loaded, Filed}
@@ -31,15 +29,12 @@ pub record Rest (sheet : List ℕ) (line place : ℕ) (before : Before) (n : Net
   pub count : line + length left ≡ length all
   pub same : loaded line before n (map (row_at sheet) left) end ≡ sheet_loaded sheet all end
 
-abbrev pub knows : Frame → ℕ → Before
-knows frame location = record { kind = frame.last_kind; location = location }
-
-pub record Sofar (sheet held : List ℕ) (line location place : ℕ) (frame : Frame) (t : Tables) : Type 0 where
+pub record Sofar (sheet held : List ℕ) (line place : ℕ) (before : Before) (frame : Frame) (t : Tables) : Type 0 where
   pub sheet_same : held ≡ sheet
   pub whole : frame.end ≡ length sheet
   pub few : line ≤ place
   pub holds : Holds t (network t)
-  pub on : (all : List Found) (end : Option ReadFault) → Reads sheet all end → Rest sheet line place (knows frame location) (network t) all end
+  pub on : (all : List Found) (end : Option ReadFault) → Reads sheet all end → Rest sheet line place before (network t) all end
 
 -- ---- the start
 
@@ -72,8 +67,8 @@ fits_empty = record {
 pub holds_own : (t : Tables) (n : Network) → Holds t n → Holds t (network t)
 holds_own t n h = subst (λ (m : Network). Holds t m) (sym (holds_network t n h)) h
 
-pub start : (sheet held : List ℕ) (place : ℕ) (frame : Frame) (t : Tables) → held ≡ sheet → place ≡ 0 → frame ≡ record { end = length sheet; last_kind = 0 }
-    → t ≡ stored empty → Sofar sheet held 0 0 place frame t
+pub start : (sheet held : List ℕ) (place : ℕ) (frame : Frame) (t : Tables) → held ≡ sheet → place ≡ 0 → frame ≡ record { end = length sheet; last_kind = None }
+    → t ≡ stored empty → Sofar sheet held 0 place none_before frame t
 start sheet held place frame t same zero-place f e =
     let h : Holds t empty = record { whole = e; fits = fits_empty } in
     record {
@@ -86,8 +81,7 @@ start sheet held place frame t same zero-place f e =
         reads = subst (λ (p : ℕ). ReadsFrom sheet p all end) (sym zero-place) reads;
         count = omega arith;
         same =
-            ap (λ (x : Frame). loaded 0 (knows x 0) (network t) (map (row_at sheet) all) end) f
-            ∙ ap (λ (n : Network). loaded 0 none_before n (map (row_at sheet) all) end) (holds_network t empty h);
+            ap (λ (n : Network). loaded 0 none_before n (map (row_at sheet) all) end) (holds_network t empty h);
       };
     }
 
@@ -101,14 +95,23 @@ at-fault sheet line place count before n t f [] stop (Some g) r h e =
     ap (λ (x : ReadFault). Err (Unreadable line x)) (one_fault f g (read_line place sheet) r (ap (λ (p : ℕ). read_line p sheet) h ∙ e))
 at-fault sheet line place count before n t f (g ∷ left) stop end r h e = absurd (not_fault_and_line f g (read_line place sheet) r h.0)
 
-pub fault-told : (sheet held : List ℕ) (line location place : ℕ) (frame : Frame) (t : Tables) (f : ReadFault) → Sofar sheet held line location place frame t
+pub fault-told : (sheet held : List ℕ) (line place : ℕ) (before : Before) (frame : Frame) (t : Tables) (f : ReadFault) → Sofar sheet held line place before frame t
     → Err f ≡ shown held (line_at frame place held) → (all : List Found) (end : Option ReadFault) → Reads sheet all end
     → Filed (Err (Unreadable line f)) t (length all) (sheet_loaded sheet all end)
-fault-told sheet held line location place frame t f s e all end reads =
+fault-told sheet held line place before frame t f s e all end reads =
     let rest = s.on all end reads in
     let r : read_line place sheet ≡ Err f = sym (line-here sheet held frame place s.sheet_same s.whole) ∙ err_line held f (line_at frame place held) e in
     subst (Filed (Err (Unreadable line f)) t (length all)) rest.same
-    (at-fault sheet line place (length all) (knows frame location) (network t) t f rest.left rest.reads.stop end r rest.reads.handed rest.reads.ends)
+    (at-fault sheet line place (length all) before (network t) t f rest.left rest.reads.stop end r rest.reads.handed rest.reads.ends)
+
+-- a fault of the reader is told with the number of its line
+pub told_with : (line : ℕ) (r : Result (Option PlacedLine) ReadFault) (m : Result (Option PlacedLine) LoadFault) (g : LoadFault)
+    → MatchResult r (λ x. m ≡ Ok x) (λ f. IsErrAnd m (λ h. h ≡ Unreadable line f)) → m ≡ Err g → (f : ReadFault) × (r ≡ Err f) × (g ≡ Unreadable line f)
+told_with line (Ok x) m g h e = absurd (let z : ◌≡◌ {A = ℕ} 0 1 = cc in omega arith)
+told_with line (Err f) m g h e =
+    let t = err_from_is_err_and m h in
+    let same : g ≡ t.0 = cc in
+    (f, refl, same ∙ t.2)
 
 -- ---- the end of the sheet
 
@@ -119,15 +122,15 @@ at-end sheet line place count before n t [] stop None r c whole h e = let same :
 at-end sheet line place count before n t [] stop (Some g) r c whole h e = absurd (not_both_ends g (read_line place sheet) r (ap (λ (p : ℕ). read_line p sheet) h ∙ e))
 at-end sheet line place count before n t (g ∷ left) stop end r c whole h e = absurd (not_none_and_line g (read_line place sheet) r h.0)
 
-pub end_told : (sheet held : List ℕ) (line location place : ℕ) (frame : Frame) (t : Tables) (next : Option PlacedLine) → Sofar sheet held line location place frame t
+pub end_told : (sheet held : List ℕ) (line place : ℕ) (before : Before) (frame : Frame) (t : Tables) (next : Option PlacedLine) → Sofar sheet held line place before frame t
     → next ≡ None → seen (Ok next) ≡ shown held (line_at frame place held) → (all : List Found) (end : Option ReadFault) → Reads sheet all end
     → Filed (Ok line) t (length all) (sheet_loaded sheet all end)
-end_told sheet held line location place frame t next s is e all end reads =
+end_told sheet held line place before frame t next s is e all end reads =
     let rest = s.on all end reads in
     let none : Ok None ≡ shown held (line_at frame place held) = sym (ap (λ (o : Option PlacedLine). seen (Ok o)) is) ∙ e in
     let r : read_line place sheet ≡ Ok None = sym (line-here sheet held frame place s.sheet_same s.whole) ∙ none_line held (line_at frame place held) none in
     subst (Filed (Ok line) t (length all)) rest.same
-    (at-end sheet line place (length all) (knows frame location) (network t) t rest.left rest.reads.stop end r rest.count s.holds.whole rest.reads.handed rest.reads.ends)
+    (at-end sheet line place (length all) before (network t) t rest.left rest.reads.stop end r rest.count s.holds.whole rest.reads.handed rest.reads.ends)
 
 -- ---- a line
 
@@ -152,12 +155,12 @@ next_by sheet line place before n f all end (g ∷ left) stop r h e c same =
       same = subst (λ (x : Found). loaded line before n (row_at sheet x ∷ map (row_at sheet) left) end ≡ sheet_loaded sheet all end) g-is same;
     }
 
-pub next_line : (sheet held : List ℕ) (line location place : ℕ) (frame : Frame) (t : Tables) (f : Found) → Sofar sheet held line location place frame t
+pub next_line : (sheet held : List ℕ) (line place : ℕ) (before : Before) (frame : Frame) (t : Tables) (f : Found) → Sofar sheet held line place before frame t
     → read_line place sheet ≡ Ok (Some f) → (all : List Found) (end : Option ReadFault) → Reads sheet all end
-    → Next sheet line place (knows frame location) (network t) f all end
-next_line sheet held line location place frame t f s r all end reads =
+    → Next sheet line place before (network t) f all end
+next_line sheet held line place before frame t f s r all end reads =
     let rest = s.on all end reads in
-    next_by sheet line place (knows frame location) (network t) f all end rest.left rest.reads.stop r rest.reads.handed rest.reads.ends rest.count rest.same
+    next_by sheet line place before (network t) f all end rest.left rest.reads.stop r rest.reads.handed rest.reads.ends rest.count rest.same
 
 -- the row that was decoded is the row of the line
 row_same : (sheet held : List ℕ) (k : LineKind) (bytes : List ℕ) (f : Found) → held ≡ sheet → k ≡ f.kind → bytes ≡ stretch held f → row_of k bytes ≡ row_at sheet f
@@ -171,10 +174,10 @@ pub record Got (sheet held : List ℕ) (place : ℕ) (frame : Frame) (row : Row)
   pub here : line_at frame place held ≡ Ok (Some line)
   pub row_is : row ≡ row_at sheet line
 
-pub got : (sheet held : List ℕ) (line location place : ℕ) (frame : Frame) (t : Tables) (next : Option PlacedLine) (p : PlacedLine)
-    → Sofar sheet held line location place frame t → next ≡ Some p → seen (Ok next) ≡ shown held (line_at frame place held)
+pub got : (sheet held : List ℕ) (line place : ℕ) (before : Before) (frame : Frame) (t : Tables) (next : Option PlacedLine) (p : PlacedLine)
+    → Sofar sheet held line place before frame t → next ≡ Some p → seen (Ok next) ≡ shown held (line_at frame place held)
     → Got sheet held place frame (row_of (shows p.line).0 (shows p.line).1)
-got sheet held line location place frame t next p s is e =
+got sheet held line place before frame t next p s is e =
     let some : Ok (Some ((shows p.line).0, (shows p.line).1, p.place)) ≡ shown held (line_at frame place held) =
     sym (ap (λ (o : Option PlacedLine). seen (Ok o)) is) ∙ e in
     let l = some-line held (line_at frame place held) (shows p.line).0 (shows p.line).1 p.place some in
@@ -186,92 +189,57 @@ got sheet held line location place frame t next p s is e =
     }
 
 -- the line is refused
-pub line_refused : (sheet held : List ℕ) (line location place : ℕ) (frame : Frame) (t after : Tables) (row : Row) (fault : LoadFault) (last : ℕ) (r : Result ℕ LoadFault)
-    → Sofar sheet held line location place frame t → Got sheet held place frame row → last ≡ frame.last_kind → r ≡ Err fault
-    → Err fault ≡ line_filed line (placed (record { kind = last; location = location }) (network t) row)
+pub line_refused : (sheet held : List ℕ) (line place : ℕ) (before : Before) (frame : Frame) (t after : Tables) (row : Row) (fault : LoadFault) (r : Result ℕ LoadFault)
+    → Sofar sheet held line place before frame t → Got sheet held place frame row → r ≡ Err fault
+    → Err fault ≡ line_filed line (placed before (network t) row)
     → (all : List Found) (end : Option ReadFault) → Reads sheet all end → Filed r after (length all) (sheet_loaded sheet all end)
-line_refused sheet held line location place frame t after row fault last r s g k answer told-fault all end reads =
-    let e : line_filed line (placed (knows frame location) (network t) row) ≡ Err fault =
-    sym (told-fault ∙ ap (λ (x : ℕ). line_filed line (placed (record { kind = x; location = location }) (network t) row)) k) in
-    let n = next_line sheet held line location place frame t g.line s g.read all end reads in
-    let b = knows frame location in
-    let told : loaded line b (network t) (row_at sheet g.line ∷ map (row_at sheet) n.left) end ≡ Err fault =
+line_refused sheet held line place before frame t after row fault r s g answer told-fault all end reads =
+    let n = next_line sheet held line place before frame t g.line s g.read all end reads in
+    let told : loaded line before (network t) (row_at sheet g.line ∷ map (row_at sheet) n.left) end ≡ Err fault =
     ap (λ (x : Result Before LoadFault). and_then x (λ a. loaded (line + 1) a (filed (network t) (row_at sheet g.line)) (map (row_at sheet) n.left) end))
-    (ap (λ (x : Row). line_filed line (placed b (network t) x)) (sym g.row_is) ∙ e) in
+    (ap (λ (x : Row). line_filed line (placed before (network t) x)) (sym g.row_is) ∙ sym told-fault) in
     subst (Filed r after (length all)) n.same (subst (Filed r after (length all)) (sym told) answer)
 
 -- ---- the line is filed
 
-pub record Behind (before : Before) (n : Network) (row : Row) (after : Before) : Type 0 where
-  pub is : placed before n row ≡ Ok after
-  pub kind_is : after.kind ≡ kind_number row
+-- a line that was filed had its place and its room
+placed-of : (before : Before) (n : Network) (row : Row) (after : Before) (line : ℕ) (r : Result Before Misplaced) → placed before n row ≡ r
+    → line_filed line r ≡ Ok after → placed before n row ≡ Ok after
+placed-of before n row after line (Ok b) is e = let same : b ≡ after = cc in is ∙ ap Ok same
+placed-of before n row after line (Err why) is e = absurd (let z : ◌≡◌ {A = ℕ} 0 1 = cc in omega arith)
 
-behind-of : (before : Before) (n : Network) (row : Row) (after : Before) (line : ℕ) (place room : Bool) → placed before n row ≡ cond place (cond room (Ok (behind before row)) (Err misplaced.Full)) (Err misplaced.OutOfPlace)
-    → line_filed line (placed before n row) ≡ Ok after → Behind before n row after
-behind-of before n row after line true true is e =
-    let h : Ok (behind before row) ≡ Ok after = sym (ap (line_filed line) is) ∙ e in
-    let same : behind before row ≡ after = cc in
-    record { is = is ∙ ap Ok same; kind_is = ap (λ (b : Before). b.kind) (sym same) }
-behind-of before n row after line true false is e =
-    let h = sym (ap (line_filed line) is) ∙ e in
-    absurd (let z : ◌≡◌ {A = ℕ} 0 1 = cc in omega arith)
-behind-of before n row after line false room is e =
-    let h = sym (ap (line_filed line) is) ∙ e in
-    absurd (let z : ◌≡◌ {A = ℕ} 0 1 = cc in omega arith)
-
-row_kind : (k : LineKind) (bytes : List ℕ) → kind_number (row_of k bytes) ≡ code_of k
-row_kind kind.Policy bytes = refl
-row_kind kind.Grant bytes = refl
-row_kind kind.Location bytes = refl
-row_kind kind.PathStep bytes = refl
-row_kind kind.Edge bytes = refl
-row_kind kind.TemplateLine bytes = refl
-row_kind kind.Pattern bytes = refl
-row_kind kind.Command bytes = refl
-row_kind kind.Job bytes = refl
-
-with_kind : (a b : Before) → a.kind ≡ b.kind → a.location ≡ b.location → a ≡ b
-with_kind a b k l = λ i. record { kind = k i; location = l i }
-
-pub line-filed : (sheet held later : List ℕ) (line location place forth : ℕ) (frame then : Frame) (t u : Tables) (row : Row) (after : Before) (last : ℕ)
-    → Sofar sheet held line location place frame t → Got sheet held place frame row → last ≡ frame.last_kind
-    → Ok after ≡ line_filed line (placed (record { kind = last; location = location }) (network t) row)
-    → Holds u (network_after (placed (record { kind = last; location = location }) (network t) row) (network t) row)
+pub line-filed : (sheet held later : List ℕ) (line place forth : ℕ) (before after : Before) (frame then : Frame) (t u : Tables) (row : Row)
+    → Sofar sheet held line place before frame t → Got sheet held place frame row
+    → Ok after ≡ line_filed line (placed before (network t) row)
+    → Holds u (network_after (placed before (network t) row) (network t) row)
     → later ≡ held → forth ≡ place_after place (line_at frame place held) → then ≡ frame_after frame (line_at frame place held) → place < forth
-    → Sofar sheet later (line + 1) after.location forth then u
-line-filed sheet held later line location place forth frame then t u row after last s g k told told-holds kept goes framed moves =
-    let b = knows frame location in
+    → Sofar sheet later (line + 1) forth after then u
+line-filed sheet held later line place forth before after frame then t u row s g told told-holds kept goes framed moves =
     let n = network t in
-    let e : line_filed line (placed b n row) ≡ Ok after = sym (told ∙ ap (λ (x : ℕ). line_filed line (placed (record { kind = x; location = location }) n row)) k) in
-    let h : Holds u (network_after (placed b n row) n row) = subst (λ (x : ℕ). Holds u (network_after (placed (record { kind = x; location = location }) n row) n row)) k told-holds in
     let f = g.line in
-    let w = behind-of b n row after line (in_place b n row) (has_room n row) refl e in
-    let h2 : Holds u (filed n row) = subst (λ (x : Result Before Misplaced). Holds u (network_after x n row)) w.is h in
+    let is : placed before n row ≡ Ok after = placed-of before n row after line (placed before n row) refl (sym told) in
+    let h2 : Holds u (filed n row) = subst (λ (x : Result Before Misplaced). Holds u (network_after x n row)) is told-holds in
     let net : network u ≡ filed n (row_at sheet f) = holds_network u (filed n row) h2 ∙ ap (filed n) g.row_is in
-    let frame_is : then ≡ record { end = frame.end; last_kind = code_of f.kind } = framed ∙ ap (frame_after frame) g.here in
+    let frame_is : then ≡ frame_after frame (Ok (Some f)) = framed ∙ ap (frame_after frame) g.here in
     let forth-is : forth ≡ f.end = goes ∙ ap (place_after place) g.here in
-    let kind_is : after.kind ≡ then.last_kind =
-    w.kind_is ∙ ap kind_number g.row_is ∙ row_kind f.kind (stretch sheet f) ∙ sym (ap (λ (x : Frame). x.last_kind) frame_is) in
-    let known : knows then after.location ≡ after = with_kind (knows then after.location) after (sym kind_is) refl in
-    let turn : line_filed line (placed b n (row_at sheet f)) ≡ Ok after = ap (λ (x : Row). line_filed line (placed b n x)) (sym g.row_is) ∙ e in
+    let turn : line_filed line (placed before n (row_at sheet f)) ≡ Ok after = ap (λ (x : Row). line_filed line (placed before n x)) (sym g.row_is) ∙ sym told in
     record {
       sheet_same = kept ∙ s.sheet_same;
       whole = ap (λ (x : Frame). x.end) frame_is ∙ s.whole;
       few = omega (arith, s.few);
       holds = holds_own u (filed n row) h2;
       on = λ all end reads.
-          let m = next_line sheet held line location place frame t f s g.read all end reads in
+          let m = next_line sheet held line place before frame t f s g.read all end reads in
           record {
             left = m.left;
             reads = subst (λ (p : ℕ). ReadsFrom sheet p m.left end) (sym forth-is) m.reads;
             count = m.count;
             same =
-                ap (λ (x : Before). loaded (line + 1) x (network u) (map (row_at sheet) m.left) end) known
-                ∙ ap (λ (x : Network). loaded (line + 1) after x (map (row_at sheet) m.left) end) net
+                ap (λ (x : Network). loaded (line + 1) after x (map (row_at sheet) m.left) end) net
                 ∙ sym (ap (λ (x : Result Before LoadFault). and_then x (λ a. loaded (line + 1) a (filed n (row_at sheet f)) (map (row_at sheet) m.left) end)) turn)
                 ∙ m.same;
           };
     }
 
-pub moved : (o : Option PlacedLine) (l : PlacedLine) (p q : ℕ) → o ≡ Some l → Moves (Ok o) p q → p < q
-moved o l p q e m = subst (λ (x : Option PlacedLine). Moves (Ok x) p q) e m
+pub moved : (r : Result (Option PlacedLine) ReadFault) (l : PlacedLine) (p q : ℕ) → r ≡ Ok (Some l) → Moves r p q → p < q
+moved r l p q e m = subst (λ (x : Result (Option PlacedLine) ReadFault). Moves x p q) e m

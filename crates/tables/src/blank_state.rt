@@ -25,8 +25,7 @@ impl Blank {
     pub fn spend(self) -> u64
         ensures answer { result ≡ self.serial }
     {
-        match self {
-            Blank { serial: own } => own,
-        }
+        let Blank { serial } = self;
+        serial
     }
 }

@@ -1,12 +1,14 @@
 // Why a sheet is not loaded.
-ghost use Rattle.std.specs.Prelude.{◌≡◌};
-ghost use Rattle.tables.specs.Faults.{refusal, fault_at};
+ghost use Rattle.std.specs.Prelude.{◌≡◌, Some};
+ghost use Rattle.tables.specs.Faults.{refusal, fault_at, load_words};
 
 use filing::Misplaced;
 use number::ReadFault;
+use std::error::Error;
+use std::fmt;
 
 // Lines are counted from 0.
-#[derive(Clone, Copy)]
+#[derive(Clone, Copy, Debug, PartialEq, Eq)]
 pub enum LoadFault {
     // The reader cannot read the line.
     Unreadable { line: usize, fault: ReadFault },
@@ -28,6 +30,7 @@ impl LoadFault {
         }
     }
 
+    // The fault of a line that was not filed.
     pub(crate) fn at(line: usize, why: Misplaced) -> LoadFault
         ensures answer { result ≡ fault_at line why }
     {
@@ -37,3 +40,17 @@ impl LoadFault {
         }
     }
 }
+
+impl fmt::Display for LoadFault {
+    ghost output = { λ fault. Some (load_words fault) };
+
+    fn fmt<W: fmt::Write>(&self, f: &mut fmt::Formatter<W>) -> fmt::Result {
+        match self {
+            LoadFault::Unreadable { line, fault } => write!(f, "line {line}: {fault}"),
+            LoadFault::OutOfPlace { line } => write!(f, "line {line}: {}", Misplaced::OutOfPlace),
+            LoadFault::Full { line } => write!(f, "line {line}: {}", Misplaced::Full),
+        }
+    }
+}
+
+impl Error for LoadFault {}

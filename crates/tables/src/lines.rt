@@ -24,10 +24,7 @@ fn file_line(
     ensures answer { result ≡ line_filed number (placed before (network tables.old) (row_shown (shows line.entry))) }
     ensures after { Holds tables.new (network_after (placed before (network tables.old) (row_shown (shows line.entry))) (network tables.old) (row_shown (shows line.entry))) }
 {
-    match file(tables, before, Row::decode(line)) {
-        Ok(after) => Ok(after),
-        Err(why) => Err(LoadFault::at(number, why)),
-    }
+    file(tables, before, Row::from(line)).map_err(|why| LoadFault::at(number, why))
 }
 
 // Files all lines, and counts them; up to the first fault.
@@ -37,22 +34,17 @@ pub(crate) fn file_lines(tables: &mut Tables, sheet: &[u8]) -> Result<usize, Loa
     ensures holds { Holds tables.new (network tables.new) }
 {
     let mut reader = Reader::new(sheet);
-    let mut location = 0;
+    let mut before = Before {
+        kind: None,
+        location: 0,
+    };
     let mut line = 0;
-    loop {
-        let before = Before {
-            kind: reader.last_kind(),
-            location,
-        };
-        match reader.next_line() {
-            Err(fault) => return Err(LoadFault::Unreadable { line, fault }),
-            Ok(next) => match next {
-                None => return Ok(line),
-                Some(placed) => {
-                    location = file_line(tables, before, line, placed.line)?.location;
-                    line += 1;
-                }
-            },
-        }
+    while let Some(placed) = reader
+        .next_line()
+        .map_err(|fault| LoadFault::Unreadable { line, fault })?
+    {
+        before = file_line(tables, before, line, placed.line)?;
+        line += 1;
     }
+    Ok(line)
 }
