@@ -42,7 +42,7 @@ fn poke_edge_count(tables: &mut Tables, poke: Poke) -> Result<(), Wrong>
     ensures same { OnErr result (tables.new ≡ tables.old) }
 {
     let at = poke.field as usize;
-    if at >= 16 {
+    if at >= tables.trees.len() {
         return Err(Wrong::Field);
     }
     tables.trees[at].count = poke.value as usize;

@@ -18,7 +18,7 @@ fn poke_lengths(shelf: &mut Shelf, poke: Poke) -> Result<(), Wrong>
         return Ok(());
     }
     let at = (poke.field - 1) as usize;
-    if at >= 64 {
+    if at >= shelf.trees.rows.len() {
         return Err(Wrong::Field);
     }
     shelf.trees.rows[at] = poke.value as usize;
@@ -31,7 +31,7 @@ fn poke_shelved(shelf: &mut Shelf, at: usize, poke: Poke) -> Result<(), Wrong>
     ensures after { shelf.new ≡ after shelf.old (shelved_with shelf.old at poke.field poke.value) }
     ensures same { OnErr result (shelf.new ≡ shelf.old) }
 {
-    if at >= 1024 {
+    if at >= shelf.lines.len() {
         return Err(Wrong::Row);
     }
     shelf.lines[at] = shelf.lines[at].with_field(poke.field, poke.value)?;
