@@ -15,35 +15,37 @@ use sheet::LineKind;
 use std::alloc::{AllocError, Global};
 use std::fmt;
 
-fn row_line<R: Fields>(heap: Global, table: u32, row: usize, found: R) -> Result<String, AllocError>
-    ensures answer { IfOk result (λ s. string_bytes s ≡ row_line R.listed table row found) }
-{
-    let fields = found.fields(heap)?;
-    format!(in heap; "table {table} row {row}:{}", FieldTexts(fields.as_slice()))
-}
-
-fn found_line<R: Fields>(
+// The row of a table whose line is to be written, by the table's number and its own.
+#[derive(Clone, Copy)]
+struct RowLine {
     heap: Global,
     table: u32,
     row: usize,
-    found: Option<R>,
-) -> Result<Option<String>, AllocError>
-    ensures answer { IfOk result (λ o. option_map string_bytes o ≡ option_map (row_line R.listed table row) found) }
-{
-    found
-        .map(|found| row_line(heap, table, row, found))
-        .transpose()
 }
 
-fn table_line<R: Fields, const N: usize>(
-    heap: Global,
-    table: u32,
-    row: usize,
-    rows: &Table<R, N>,
-) -> Result<Option<String>, AllocError>
-    ensures answer { IfOk result (λ o. option_map string_bytes o ≡ option_map (row_line R.listed table row) (slice_get (in_use rows.now) row)) }
-{
-    found_line(heap, table, row, rows.in_use().get(row).copied())
+impl RowLine {
+    fn of<R: Fields>(self, found: R) -> Result<String, AllocError>
+        ensures answer { IfOk result (λ s. string_bytes s ≡ row_line R.listed self.table self.row found) }
+    {
+        let RowLine { heap, table, row } = self;
+        let fields = found.fields(heap)?;
+        format!(in heap; "table {table} row {row}:{}", FieldTexts(fields.as_slice()))
+    }
+
+    fn if_found<R: Fields>(self, found: Option<R>) -> Result<Option<String>, AllocError>
+        ensures answer { IfOk result (λ o. option_map string_bytes o ≡ option_map (row_line R.listed self.table self.row) found) }
+    {
+        found.map(|found| self.of(found)).transpose()
+    }
+
+    fn in_table<R: Fields, const N: usize>(
+        self,
+        rows: &Table<R, N>,
+    ) -> Result<Option<String>, AllocError>
+        ensures answer { IfOk result (λ o. option_map string_bytes o ≡ option_map (row_line R.listed self.table self.row) (slice_get (in_use rows.now) self.row)) }
+    {
+        self.if_found(rows.in_use().get(self.row).copied())
+    }
 }
 
 // The line of the row, if it is in use; edges are counted over all locations. Want of memory is the only error.
@@ -59,16 +61,17 @@ pub fn row_text(
     let Ok(kind) = TableKind::try_from(table) else {
         return Ok(None);
     };
+    let line = RowLine { heap, table, row };
     match kind {
-        TableKind::Lines(LineKind::Policy) => table_line(heap, table, row, &tables.policies),
-        TableKind::Lines(LineKind::Grant) => table_line(heap, table, row, &tables.grants),
-        TableKind::Lines(LineKind::Location) => table_line(heap, table, row, &tables.locations),
-        TableKind::Lines(LineKind::PathStep) => table_line(heap, table, row, &tables.steps),
-        TableKind::Lines(LineKind::Edge) => found_line(heap, table, row, edge_at(tables, row)),
-        TableKind::Lines(LineKind::TemplateLine) => table_line(heap, table, row, &tables.templates),
-        TableKind::Lines(LineKind::Pattern) => table_line(heap, table, row, &tables.patterns),
-        TableKind::Lines(LineKind::Command) => table_line(heap, table, row, &tables.commands),
-        TableKind::Lines(LineKind::Job) => table_line(heap, table, row, &tables.jobs),
+        TableKind::Lines(LineKind::Policy) => line.in_table(&tables.policies),
+        TableKind::Lines(LineKind::Grant) => line.in_table(&tables.grants),
+        TableKind::Lines(LineKind::Location) => line.in_table(&tables.locations),
+        TableKind::Lines(LineKind::PathStep) => line.in_table(&tables.steps),
+        TableKind::Lines(LineKind::Edge) => line.if_found(edge_at(tables, row)),
+        TableKind::Lines(LineKind::TemplateLine) => line.in_table(&tables.templates),
+        TableKind::Lines(LineKind::Pattern) => line.in_table(&tables.patterns),
+        TableKind::Lines(LineKind::Command) => line.in_table(&tables.commands),
+        TableKind::Lines(LineKind::Job) => line.in_table(&tables.jobs),
         TableKind::Running | TableKind::Shelf => Ok(None),
     }
 }

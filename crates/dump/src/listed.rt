@@ -1,5 +1,6 @@
 // The fields of each row.
-ghost use Rattle.std.specs.Prelude.{◌≡◌, List, IfOk};
+ghost use Rattle.std.specs.Prelude.{◌≡◌, List, ◌∷◌, IfOk};
+ghost use Rattle.dump.specs.declared.field.Field.TheVariants.{Number};
 ghost use Rattle.dump.specs.declared.field.Field.{Field};
 ghost use Rattle.dump.specs.Listed.{policy_fields, grant_fields, location_fields, step_fields, line_fields, edge_fields, template_fields, pattern_fields, command_fields, job_fields, running_fields};
 
@@ -17,6 +18,15 @@ pub(crate) trait Fields: Copy {
 
     fn fields(self, heap: Global) -> Result<Vec<Field>, AllocError>
         ensures answer { IfOk result (λ fields. fields.items ≡ listed self) };
+}
+
+// A tree's line behind the number that says where it belongs.
+fn led_fields(heap: Global, first: u32, line: TreeLine) -> Result<Vec<Field>, AllocError>
+    ensures answer { IfOk result (λ fields. fields.items ≡ Number first ∷ line_fields line) }
+{
+    let mut fields = line.fields(heap)?;
+    fields.insert(0, Field::from(first))?;
+    Ok(fields)
 }
 
 impl Fields for PolicyRow {
@@ -75,14 +85,11 @@ impl Fields for TreeLine {
     }
 }
 
-// A tree's line stands behind the number that says where it belongs.
 impl Fields for EdgeRow {
     ghost listed = { edge_fields };
 
     fn fields(self, heap: Global) -> Result<Vec<Field>, AllocError> {
-        let mut fields = self.line.fields(heap)?;
-        fields.insert(0, Field::from(self.location))?;
-        Ok(fields)
+        led_fields(heap, self.location, self.line)
     }
 }
 
@@ -90,9 +97,7 @@ impl Fields for TemplateRow {
     ghost listed = { template_fields };
 
     fn fields(self, heap: Global) -> Result<Vec<Field>, AllocError> {
-        let mut fields = self.line.fields(heap)?;
-        fields.insert(0, Field::from(self.template))?;
-        Ok(fields)
+        led_fields(heap, self.template, self.line)
     }
 }
 

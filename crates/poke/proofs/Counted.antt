@@ -12,6 +12,7 @@ use Rattle.poke.specs.Cells.{on_ok, line_with}
 use Rattle.poke.specs.Placing.{with_trees}
 use Rattle.poke.specs.Poking.{Written, after, behind, table_with, edge_place_in, edge_with, edges_with}
 
+-- the trees' rows taken away one by one
 pub behind_is : (trees : List (Table TreeLine 128)) (row : ℕ) → fold (λ left tree. left - edges_in tree) row trees ≡ behind row trees
 behind_is [] row = refl
 behind_is (tree ∷ trees) row = behind_is trees (row - edges_in tree)

@@ -244,7 +244,7 @@ fn slots_with(mut slots: [Slot; 6], part: u32, value: u64) -> Result<[Slot; 6], 
     ensures answer { result ≡ slots_with slots part value }
 {
     let at = (part / 2) as usize;
-    if at >= 6 {
+    if at >= slots.len() {
         return Err(Wrong::Field);
     }
     slots[at] = slot_with(slots[at], part % 2, value)?;

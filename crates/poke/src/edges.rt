@@ -35,16 +35,17 @@ fn place_of(tables: &Tables, row: usize) -> Place
     })
 }
 
-fn poke_edge_count(tables: &mut Tables, field: u32, value: u64) -> Result<(), Wrong>
-    ensures answer { result ≡ told (edge_count_with tables.old.trees field value) }
-    ensures after { tables.new ≡ with_trees tables.old (after tables.old.trees (edge_count_with tables.old.trees field value)) }
+// The number of edges of the location that the field names.
+fn poke_edge_count(tables: &mut Tables, poke: Poke) -> Result<(), Wrong>
+    ensures answer { result ≡ told (edge_count_with tables.old.trees poke.field poke.value) }
+    ensures after { tables.new ≡ with_trees tables.old (after tables.old.trees (edge_count_with tables.old.trees poke.field poke.value)) }
     ensures same { OnErr result (tables.new ≡ tables.old) }
 {
-    let at = field as usize;
-    if at >= 16 {
+    let at = poke.field as usize;
+    if at >= tables.trees.len() {
         return Err(Wrong::Field);
     }
-    tables.trees[at].count = value as usize;
+    tables.trees[at].count = poke.value as usize;
     Ok(())
 }
 
@@ -54,7 +55,7 @@ pub(crate) fn poke_edges(tables: &mut Tables, poke: Poke) -> Result<(), Wrong>
     ensures same { OnErr result (tables.new ≡ tables.old) }
 {
     match Row::from(poke.row) {
-        Row::Count => poke_edge_count(tables, poke.field, poke.value),
+        Row::Count => poke_edge_count(tables, poke),
         Row::At(at) => {
             let place = place_of(tables, at);
             let row = place.edge as u32;
