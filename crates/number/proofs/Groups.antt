@@ -1,12 +1,12 @@
 -- A number read group by group from the front: what is still to come stands at a scale, over a value.
-use Rattle.std.proofs.Common.{◌≡◌, ℕ, ◌+◌, ◌-◌, ◌*◌, ◌/◌, ◌%◌, ◌^◌, ◌<◌, ◌≤◌, cond, eqb, List, [], ◌∷◌, Ok, Err, Result, sym, refl, ap, ◌∙◌, ⊎_elim, mul_assoc, mul_comm, mul-le-mul_left, mul-add, arith, pow_mono, pow-add}
+use Rattle.std.proofs.Common.{◌≡◌, ℕ, ◌+◌, ◌-◌, ◌*◌, ◌/◌, ◌%◌, ◌^◌, ◌<◌, ◌≤◌, cond, eqb, List, ◌∷◌, Ok, Err, Result, sym, refl, ap, ◌∙◌, ⊎_elim, mul_assoc, mul_comm, mul-le-mul_left, mul-add, arith, pow_mono, pow-add}
 use native.Mathlib.Nat.{mul-add-div, div-div-eq-div-mul}
 use Rattle.std.proofs.lemmas.Nat.{div-add-mod'}
 use Rattle.std.proofs.lemmas.Bool.{lt-ltb, le-ltb, eq-eqb, ne_eqb, cond-true, cond-false, cases_lt, cases_eq}
-use Rattle.number.specs.declared.fault.Cause.TheVariants.{Ends, TooLarge}
+use Rattle.number.specs.declared.fault.Cause.TheVariants.{TooLarge}
 use Rattle.number.specs.declared.fault.ReadFault.{ReadFault}
 use Rattle.number.specs.declared.reading.Number.{Number}
-use Rattle.number.specs.Spelling.{found, fault_at, behind, grouped, number, from}
+use Rattle.number.specs.Spelling.{found, fault_at, behind, grouped, number}
 
 -- ---- one byte
 
@@ -38,9 +38,6 @@ later scale r = cond (eqb scale 1) r (behind r)
 
 abbrev pub coming : ℕ → ℕ → ℕ → ℕ → List ℕ → Result Number ReadFault
 coming limit scale value place bs = lifted value scale place (later scale (number ((limit - value) / scale) bs))
-
-later_first : (r : Result Number ReadFault) → later 1 r ≡ r
-later_first r = refl
 
 later_more : (scale : ℕ) (r : Result Number ReadFault) → 1 < scale → later scale r ≡ behind r
 later_more scale r h = cond-false _ _ _ (ne_eqb scale 1 (λ e. omega arith))
@@ -149,19 +146,6 @@ module _ (limit scale value place b : ℕ) (bs : List ℕ) where
       ∙ lifted-grouped value scale place low (behind rest)
       ∙ ap (λ l. lifted (value + scale * low) (scale * 128) (place + 1) (behind (number l bs))) (rest-limit limit value scale low pos fit)
       ∙ sym (ap (lifted (value + scale * low) (scale * 128) (place + 1)) (later_more (scale * 128) _ wider))
-
-pub coming-none : (limit scale value place : ℕ) → coming limit scale value place [] ≡ fault_at Ends place
-coming-none limit scale value place =
-    ap (lifted value scale place) (later-err scale (record { cause = Ends; byte = 0 })) ∙ ap (fault_at Ends) (omega arith)
-
-pub coming-all : (limit place : ℕ) (bs : List ℕ) → coming limit 1 0 place bs ≡ from place (number limit bs)
-coming-all limit place bs =
-    let e : (limit - 0) / 1 ≡ limit = omega arith in
-    ap (λ l. lifted 0 1 place (number l bs)) e ∙ same (number limit bs)
-  where
-    same : (r : Result Number ReadFault) → lifted 0 1 place r ≡ from place r
-    same (Ok n) = ap (λ v. found v (place + n.next)) (omega arith)
-    same (Err f) = refl
 
 -- a scale that can still grow is below 2 ^ 57
 pub shift_small : (shift : ℕ) → 2 ^ shift * 128 ≤ 2 ^ 64 - 1 → shift + 7 < 64

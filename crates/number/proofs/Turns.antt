@@ -1,24 +1,18 @@
 -- What a turn of the reading loop keeps, and what each way out of it answers.
 use Rattle.std.proofs.Common.{◌≡◌, ℕ, ◌+◌, ◌-◌, ◌*◌, ◌/◌, ◌%◌, ◌^◌, ◌<◌, ◌≤◌, List, ◌∷◌, length, get_or, drop, sym, ap, ◌∙◌, inl, inr, arith, mul_comm, mul-le-mul_left, pow_mono, pow-add}
 use Rattle.std.proofs.lemmas.Nat.{pow_pos}
-use Rattle.std.proofs.lemmas.List.{at_drop_more, at_drop_all}
+use Rattle.std.proofs.lemmas.List.{at_drop_more}
 use Rattle.std.proofs.Math.Nat.{mod-eq_of_lt}
 use Rattle.std.specs.Prelude.{◌⊎◌}
-use Rattle.number.specs.declared.fault.Cause.TheVariants.{Ends, TooLarge}
+use Rattle.number.specs.declared.fault.Cause.TheVariants.{TooLarge}
 use Rattle.number.specs.Spelling.{found, fault_at, read_number}
-use Rattle.number.proofs.Groups.{coming, fits, less_high, shift_small, coming-large, coming-zero, coming-last, coming-more, coming-none}
+use Rattle.number.proofs.Groups.{coming, fits, less_high, shift_small, coming-large, coming-zero, coming-last, coming-more}
 
 -- the groups so far make `value`, and the bytes that are left stand at the scale of the next
 pub record SoFar (limit at : ℕ) (bytes rest : List ℕ) (value groups : ℕ) : Type 0 where
   pub shift : 7 * groups < 64
   pub within : value ≤ limit
   pub left : coming limit (2 ^ (7 * groups)) value (at + groups) (drop groups rest) ≡ read_number limit at bytes
-
-pub at-end : (limit at : ℕ) (bytes rest : List ℕ) (value groups : ℕ) → SoFar limit at bytes rest value groups → length rest ≤ groups
-    → fault_at Ends (at + groups) ≡ read_number limit at bytes
-at-end limit at bytes rest value groups so_far h =
-    let scale = 2 ^ (7 * groups) in
-    sym (at_drop_all (coming limit scale value (at + groups)) rest groups h ∙ coming-none limit scale value (at + groups)) ∙ so_far.left
 
 module _ (limit at : ℕ) (bytes rest : List ℕ) (value groups : ℕ) (so_far : SoFar limit at bytes rest value groups) (here : groups < length rest) (b : ℕ) (is : b ≡ get_or rest groups 0) where
   opened : coming limit (2 ^ (7 * groups)) value (at + groups) (b ∷ drop (groups + 1) rest) ≡ read_number limit at bytes
