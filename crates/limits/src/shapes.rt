@@ -72,14 +72,11 @@ fn narrow(number: u64) -> u32 {
 // Whether the number was written; no number is.
 fn write_one(rt: &HostRuntime, tables: &mut Tables, text: &str) -> io::Result<bool> {
     let numbers = numbers_of(rt, text)?;
-    let numbers = numbers.as_slice();
-    if numbers.len() != 4 {
+    let [table, row, field, value] = numbers.as_slice() else {
         return Ok(numbers.is_empty());
-    }
-    let table = narrow(numbers[0]);
-    let row = narrow(numbers[1]);
-    let field = narrow(numbers[2]);
-    Ok(poke(tables, table, row, field, numbers[3]).is_ok())
+    };
+    let poked = poke(tables, narrow(*table), narrow(*row), narrow(*field), *value);
+    Ok(poked.is_ok())
 }
 
 // Whether all of the numbers were written.
