@@ -1,72 +1,52 @@
 // How an answer is written: one line, without its end.
 ghost use Rattle.std.specs.Prelude.{◌≡◌, Some};
-ghost use Rattle.answer.specs.Showing.{reason_of, answer_text};
+ghost use Rattle.answer.specs.Showing.{answer_text};
 
+use drawn::DrawFault;
+use number::ReadFault;
 use std::fmt;
-use words::{Unclear, Why};
+use words::Unclear;
+
+// The refusal of a `draw`, as `DrawFault` tells it.
+const NOT_DRAWN: u32 = 12;
 
 #[derive(Clone, Copy)]
 pub enum Answer {
     Ok,
     Yes,
     No,
-    // The pair at this place, counted from 0, was not drawn.
-    PairRefused {
-        number: u32,
-        pair: usize,
-    },
+    // A pair was not drawn.
+    PairRefused(DrawFault),
     // The order is not one that is drawn.
-    NotDrawn {
-        number: u32,
-    },
+    NotDrawn,
     // So many lines were listed.
-    Count {
-        lines: usize,
-    },
-    // A line of a sheet could not be read, from this byte of the sheet on.
-    ReadRefused {
-        number: u32,
-        line: usize,
-        byte: usize,
-    },
+    Count { lines: usize },
+    // This line of a sheet, counted from 0, could not be read.
+    ReadRefused { line: usize, fault: ReadFault },
     Unclear(Unclear),
-}
-
-fn reason(why: Why) -> &'static str
-    ensures answer { result.now ≡ reason_of why }
-{
-    match why {
-        Why::NotACommand => "no such command",
-        Why::NotAnOrder => "no such order",
-        Why::NotARoleCode => "not a role code",
-        Why::NotARoleSet => "not a role set",
-        Why::NeitherHexNorFile => "neither hex nor file",
-        Why::NotHexadecimal => "not hexadecimal",
-        Why::CannotBeRead => "cannot be read",
-        Why::Missing => "missing",
-        Why::TooMany => "too many words",
-    }
 }
 
 impl fmt::Display for Answer {
     ghost output = { λ a. Some (answer_text a) };
 
     fn fmt<W: fmt::Write>(&self, f: &mut fmt::Formatter<W>) -> fmt::Result {
-        match *self {
+        match self {
             Answer::Ok => f.write_str("ok"),
             Answer::Yes => f.write_str("yes"),
             Answer::No => f.write_str("no"),
-            Answer::PairRefused { number, pair } => write!(f, "refused {number} pair {pair}"),
-            Answer::NotDrawn { number } => write!(f, "refused {number} not drawn"),
+            Answer::PairRefused(fault) => {
+                let number = fault.number();
+                let pair = fault.pair;
+                write!(f, "refused {number} pair {pair}")
+            }
+            Answer::NotDrawn => write!(f, "refused {NOT_DRAWN} not drawn"),
             Answer::Count { lines } => write!(f, "ok {lines}"),
-            Answer::ReadRefused { number, line, byte } => {
+            Answer::ReadRefused { line, fault } => {
+                let number = fault.number();
+                let byte = fault.byte;
                 write!(f, "refused {number} line {line} byte {byte}")
             }
-            Answer::Unclear(unclear) => {
-                let word = unclear.word;
-                let reason = reason(unclear.why);
-                write!(f, "? word {word}: {reason}")
-            }
+            Answer::Unclear(unclear) => write!(f, "? {unclear}"),
         }
     }
 }

@@ -1,26 +1,36 @@
 // How one line of a sheet is listed.
-ghost use Rattle.std.specs.Prelude.{◌≡◌, ◌++◌, IfOk, string_bytes, OnOk};
-ghost use Rattle.answer.specs.Listing.{head_text, fields_text, listed_text};
+ghost use Rattle.std.specs.Prelude.{◌≡◌, Some, IfOk, string_bytes};
+ghost use Rattle.answer.specs.Listing.{listed_text};
 
 use std::alloc::{AllocError, Global};
+use std::fmt;
 
-fn head(heap: Global, line: usize, place: usize, kind: u32) -> Result<String, AllocError>
-    ensures answer { IfOk result (λ s. string_bytes s ≡ head_text line place kind) }
-{
-    format!(in heap; "line {line} at {place} kind {kind}:")
+// The line with this number begins at the byte `place` of its sheet.
+#[derive(Clone, Copy)]
+struct Listed<'a> {
+    line: usize,
+    place: usize,
+    kind: u32,
+    fields: &'a [u64],
 }
 
-fn push_fields(heap: Global, text: &mut String, fields: &[u64]) -> Result<(), AllocError>
-    ensures answer { OnOk result (string_bytes text.new ≡ string_bytes text.old ++ fields_text fields.now) }
-{
-    for field in fields {
-        let piece = format!(in heap; " {field}")?;
-        text.push_str(piece.as_str())?;
+impl fmt::Display for Listed<'_> {
+    ghost output = { λ l. Some (listed_text l.line l.place l.kind l.fields.now) };
+
+    fn fmt<W: fmt::Write>(&self, f: &mut fmt::Formatter<W>) -> fmt::Result {
+        write!(
+            f,
+            "line {} at {} kind {}:",
+            self.line, self.place, self.kind
+        )?;
+        for field in self.fields {
+            write!(f, " {field}")?;
+        }
+        Ok(())
     }
-    Ok(())
 }
 
-// The line with this number begins at the byte `place` of its sheet. Want of memory is the only error.
+// The line's text. Want of memory is the only error.
 pub fn listed_line(
     heap: Global,
     line: usize,
@@ -30,7 +40,11 @@ pub fn listed_line(
 ) -> Result<String, AllocError>
     ensures answer { IfOk result (λ s. string_bytes s ≡ listed_text line place kind fields.now) }
 {
-    let mut text = head(heap, line, place, kind)?;
-    push_fields(heap, &mut text, fields)?;
-    Ok(text)
+    let listed = Listed {
+        line,
+        place,
+        kind,
+        fields,
+    };
+    format!(in heap; "{listed}")
 }

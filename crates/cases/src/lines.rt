@@ -53,10 +53,10 @@ const LINES: [&str; 44] = [
 
 fn reply(rt: &HostRuntime, session: &mut Session, line: &str) -> io::Result<()> {
     match session.reply(rt.alloc(), line.as_bytes())? {
-        Reply::Nothing => tell(rt, line, "(passed over)"),
-        Reply::Answered(answer) => tell(rt, line, answer.to_string(rt.alloc())?.as_str()),
-        Reply::List(sheet) => first(rt, line, sheet.as_slice()),
-        Reply::ListFile(_) => tell(rt, line, "(a file to be listed)"),
+        None => tell(rt, line, "(passed over)"),
+        Some(Reply::Answered(answer)) => tell(rt, line, answer.to_string(rt.alloc())?.as_str()),
+        Some(Reply::List(sheet)) => first(rt, line, sheet.as_slice()),
+        Some(Reply::ListFile(_)) => tell(rt, line, "(a file to be listed)"),
     }
 }
 

@@ -4,8 +4,9 @@
 
 use answer::Answer;
 use anyhow::anyhow;
-use listing::{Listing, Told};
+use listing::{ListError, Listing};
 use session::{Reply, Session};
+use std::alloc::AllocError;
 use std::fs::File;
 use std::io::{BufRead, BufReader, Read};
 use std::{env, fs, str};
@@ -13,15 +14,21 @@ use words::{Unclear, Why};
 
 fn list(rt: &HostRuntime, sheet: &[u8]) -> anyhow::Result<()> {
     let mut listing = Listing::new(sheet);
-    for _ in 0..u64::MAX {
-        match listing.next(rt.alloc())? {
-            Told::Line(text) => println!(rt; "{text}")?,
-            Told::End(answer) => {
-                println!(rt; "{answer}")?;
-                break;
+    let answer = loop {
+        match listing.next(rt.alloc()) {
+            Ok(Some(text)) => println!(rt; "{text}")?,
+            Ok(None) => {
+                break Answer::Count {
+                    lines: listing.lines(),
+                };
             }
+            Err(ListError::Unreadable { line, fault }) => {
+                break Answer::ReadRefused { line, fault };
+            }
+            Err(ListError::OutOfMemory) => return Err(AllocError.into()),
         }
-    }
+    };
+    println!(rt; "{answer}")?;
     Ok(())
 }
 
@@ -52,10 +59,10 @@ fn answer_lines<R: Read + Drop>(rt: &HostRuntime, input: BufReader<R>) -> anyhow
     for line in input.split(rt.alloc(), b'\n') {
         let line = line?;
         match session.reply(rt.alloc(), line.as_slice())? {
-            Reply::Nothing => {}
-            Reply::Answered(answer) => println!(rt; "{answer}")?,
-            Reply::List(sheet) => list(rt, sheet.as_slice())?,
-            Reply::ListFile(name) => list_file(rt, name.as_slice())?,
+            None => {}
+            Some(Reply::Answered(answer)) => println!(rt; "{answer}")?,
+            Some(Reply::List(sheet)) => list(rt, sheet.as_slice())?,
+            Some(Reply::ListFile(name)) => list_file(rt, name.as_slice())?,
         }
     }
     Ok(())

@@ -1,15 +1,18 @@
 // Drawing: the least order that has the given pairs, or a refusal that changes nothing.
-ghost use Rattle.std.specs.Prelude.{◌≡◌, ℕ, ◌^◌, ◌<◌, [], MatchOption, MatchResult, OnErr, bit_or, slice_index};
+ghost use Rattle.std.specs.Prelude.{◌≡◌, ℕ, ◌^◌, ◌<◌, [], Some, cond, Decides, MatchOption, MatchResult, OnErr, bit_or, slice_index};
+ghost use Rattle.order.specs.RoleSets.{has};
 ghost use Rattle.drawn.specs.Rows.{rows_below};
 ghost use Rattle.drawn.specs.Draws.{Least, Known, AllKnown, FirstUnknown};
-ghost use Rattle.drawn.specs.Faults.{refusal, Refused};
+ghost use Rattle.drawn.specs.Faults.{refusal, Refused, fault_text};
 ghost use Rattle.drawn.specs.Pairs.{only_top, joined, grown_row};
 
 use super::rows::{Drawn, ROLES};
 use order::{Order, Role, RoleSet, has_role, with_role};
+use std::error::Error;
+use std::{array, fmt};
 
 // A pair has a code that is no role; `pair` is the place of the first such pair.
-#[derive(Clone, Copy)]
+#[derive(Clone, Copy, Debug, PartialEq, Eq)]
 pub struct DrawFault {
     pub pair: usize,
 }
@@ -22,26 +25,41 @@ impl DrawFault {
     }
 }
 
+impl fmt::Display for DrawFault {
+    ghost output = { λ fault. Some (fault_text fault) };
+
+    fn fmt<W: fmt::Write>(&self, f: &mut fmt::Formatter<W>) -> fmt::Result {
+        let pair = self.pair;
+        write!(f, "pair {pair} has a code that is no role")
+    }
+}
+
+impl Error for DrawFault {}
+
+fn is_unknown(pair: (Role, Role)) -> bool
+    ensures says { Decides result (Known pair → ⊥) }
+{
+    pair.0 >= Drawn::COUNT || pair.1 >= Drawn::COUNT
+}
+
 fn first_unknown(pairs: &[(Role, Role)]) -> Option<usize>
     ensures answer { MatchOption result (AllKnown pairs.now) (FirstUnknown pairs.now) }
 {
-    for (k, pair) in pairs.iter().enumerate() {
-        if pair.0 >= Drawn::COUNT || pair.1 >= Drawn::COUNT {
-            return Some(k);
-        }
-    }
-    None
+    pairs.iter().position(|pair| is_unknown(*pair))
 }
 
 // Each role at or below itself and the top.
 fn fresh_rows() -> [RoleSet; ROLES]
     ensures answer { (a : ℕ) → a < 32 → slice_index result a ≡ bit_or 1 (2 ^ a) }
 {
-    let mut rows = [0; ROLES];
-    for a in 0..32u32 {
-        rows[a as usize] = with_role(1, a);
-    }
-    rows
+    array::from_fn(|a| with_role(1, a as Role))
+}
+
+// A row that has `a` takes in the roles above it.
+fn grown(row: RoleSet, a: Role, above: RoleSet) -> RoleSet
+    ensures answer { result ≡ cond (has row a) (bit_or row above) row }
+{
+    if has_role(row, a) { row | above } else { row }
 }
 
 // Each row that has `a` takes in the row of `b`: one row operation for each role.
@@ -50,13 +68,7 @@ fn grow(rows: &[RoleSet; ROLES], a: Role, b: Role) -> [RoleSet; ROLES]
     ensures answer { (x : ℕ) → x < 32 → slice_index result x ≡ grown_row rows.now a b x }
 {
     let above = rows[b as usize];
-    let mut grown = *rows;
-    for (x, row) in rows.iter().enumerate() {
-        if has_role(*row, a) {
-            grown[x] = *row | above;
-        }
-    }
-    grown
+    rows.map(|row| grown(row, a, above))
 }
 
 impl Drawn {

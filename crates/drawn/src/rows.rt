@@ -18,14 +18,6 @@ pub struct Drawn {
     ghost topmost: { (a : ℕ) → a < 32 → rows_below rows a 0 ≡ true },
 }
 
-// Whether row a has role b.
-fn row_has(rows: &[RoleSet; ROLES], a: Role, b: Role) -> bool
-    requires { (a < 32) × (b < 32) }
-    ensures answer { result ≡ rows_below rows.now a b }
-{
-    has_role(rows[a as usize], b)
-}
-
 impl Order for Drawn {
     const COUNT: u32 = ROLES as u32;
 
@@ -51,11 +43,8 @@ impl Order for Drawn {
 
     ghost lawful = { λ s. rows_lawful s.rows s.reflexive (rows_transitive s.rows s.transitive) s.topmost };
 
+    #[tactic(auto, unfolding(crate::specs::Rows::rows_below))]
     fn at_or_below(&self, a: Role, b: Role) -> bool {
-        if a < 32 && b < 32 {
-            row_has(&self.rows, a, b)
-        } else {
-            false
-        }
+        a < Self::COUNT && b < Self::COUNT && has_role(self.rows[a as usize], b)
     }
 }

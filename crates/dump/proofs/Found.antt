@@ -1,7 +1,7 @@
 -- Rows in use, edges over all locations, and the lines of shelved trees.
-use Rattle.std.proofs.Common.{◌≡◌, ℕ, zero, suc, ◌+◌, ◌-◌, ◌<◌, ◌≤◌, min, ltb, ◌⊎◌, List, [], ◌∷◌, ◌++◌, map, length, get_or, take, drop, Some, None, sym, refl, ap, ◌∙◌, ⊎_elim, arith}
+use Rattle.std.proofs.Common.{◌≡◌, ℕ, zero, suc, ◌+◌, ◌-◌, ◌<◌, ◌≤◌, min, ltb, List, [], ◌∷◌, ◌++◌, map, length, get_or, take, drop, fold, Some, None, sym, refl, ap, ◌∙◌, ⊎_elim, arith}
 use Rattle.std.specs.List.{slice_get}
-use Rattle.std.proofs.lemmas.List.{length-take, length-drop, length-map, length-append, get_or-take, get_or-drop, get_or-map, get_or_append_left, drop-drop, take-take}
+use Rattle.std.proofs.lemmas.List.{length-take, length-map, length-append, get_or-take, get_or-map, get_or_append_left, drop-drop, drop_all}
 use Rattle.std.proofs.lemmas.Option.{slice_get-get_or, slice_get_past}
 use Rattle.std.proofs.lemmas.Bool.{cond-true, cond-false, cases_Bool, ltb-true, ltb-false}
 use Rattle.rows.specs.declared.row.EdgeRow.{EdgeRow}
@@ -13,16 +13,6 @@ use Rattle.layout.specs.Zeros.{line0, no_tree}
 use Rattle.places.specs.declared.finding.Place.{Place}
 use Rattle.places.specs.Places.{edges_in, edge_place}
 use Rattle.dump.specs.Dumping.{edges_from, lines_in}
-
--- ---- one table
-
-pub used : {X : Type 0} (count : ℕ) (rows : List X) (row : ℕ) (x d : X) → row < count → row < length rows → x ≡ get_or rows row d → Some x ≡ slice_get (take count rows) row
-used count rows row x d a b is =
-    let long : row < length (take count rows) = omega (arith, length-take count rows) in
-    sym (slice_get-get_or (take count rows) row d long ∙ ap Some (get_or-take count rows row d a ∙ sym is))
-
-pub unused : {X : Type 0} (count : ℕ) (rows : List X) (row : ℕ) → (count ≤ row) ⊎ ((row < count) × (length rows ≤ row)) → None ≡ slice_get (take count rows) row
-unused count rows row gone = sym (slice_get_past (take count rows) row (⊎_elim (λ a. omega (arith, length-take count rows)) (λ b. omega (arith, length-take count rows, b.1)) gone))
 
 -- ---- the edges
 
@@ -116,53 +106,55 @@ stands row trees p long e =
 
 -- ---- the shelf
 
--- one length more before the lines begin, or too many
-pub longer : (b x s most : ℕ) → x < most - b → min ((b + x) + s) most ≡ min (b + (x + s)) most
-longer b x s most h = omega arith
+-- the lengths added one by one, where no sum goes past `most`
+folded_on : (ns : List ℕ) (begin most : ℕ) → begin ≤ most → fold (λ b n. min (b + n) most) begin ns ≡ min (begin + lines_in ns) most
+folded_on [] begin most h = omega arith
+folded_on (n ∷ ns) begin most h =
+    let rest : min (min (begin + n) most + lines_in ns) most ≡ min (begin + (n + lines_in ns)) most = omega arith in
+    folded_on ns (min (begin + n) most) most (omega arith) ∙ rest
 
-pub full : (b x s most : ℕ) → b ≤ most → most - b ≤ x → min (most + s) most ≡ min (b + (x + s)) most
-full b x s most h k = omega arith
+pub folded : (ns : List ℕ) (most : ℕ) → fold (λ b n. min (b + n) most) 0 ns ≡ min (lines_in ns) most
+folded ns most =
+    let none : min (0 + lines_in ns) most ≡ min (lines_in ns) most = omega arith in
+    folded_on ns 0 most (omega arith) ∙ none
 
-piece_is : (ns : List ℕ) (lines : TreeLines) (tree n : ℕ) → Some n ≡ slice_get ns tree → get_or (pieces ns lines) tree [] ≡ take n (drop (lines_in (take tree ns)) lines)
-piece_is [] lines tree n e = let z : ◌≡◌ {A = ℕ} 0 1 = cc in absurd (omega arith)
+piece_is : (ns : List ℕ) (lines : TreeLines) (tree n : ℕ) → slice_get ns tree ≡ Some n → get_or (pieces ns lines) tree [] ≡ take n (drop (lines_in (take tree ns)) lines)
+piece_is [] lines tree n e = cc
 piece_is (m ∷ ns) lines zero n e = let same : n ≡ m = cc in ap (λ k. take k lines) (sym same)
 piece_is (m ∷ ns) lines (suc k) n e = piece_is ns (drop m lines) k n e ∙ ap (take n) (drop-drop (lines_in (take k ns)) m lines)
 
-piece_past : (ns : List ℕ) (lines : TreeLines) (tree : ℕ) → None ≡ slice_get ns tree → get_or (pieces ns lines) tree [] ≡ []
+piece_past : (ns : List ℕ) (lines : TreeLines) (tree : ℕ) → slice_get ns tree ≡ None → get_or (pieces ns lines) tree [] ≡ []
 piece_past [] lines tree e = refl
-piece_past (m ∷ ns) lines zero e = let z : ◌≡◌ {A = ℕ} 0 1 = cc in absurd (omega arith)
+piece_past (m ∷ ns) lines zero e = cc
 piece_past (m ∷ ns) lines (suc k) e = piece_past ns (drop m lines) k e
 
-nth_some : {X : Type 0} (xs : List X) (i : ℕ) (x : X) → Some x ≡ slice_get xs i → i < length xs
-nth_some [] i x e = let z : ◌≡◌ {A = ℕ} 0 1 = cc in absurd (omega arith)
-nth_some (y ∷ ys) zero x e = omega arith
-nth_some (y ∷ ys) (suc i) x e = let h : i < length ys = nth_some ys i x e in omega arith
+slice_get-take : {X : Type 0} (xs : List X) (n i : ℕ) → i < n → slice_get (take n xs) i ≡ slice_get xs i
+slice_get-take xs zero i h = absurd (omega arith)
+slice_get-take [] (suc n) i h = refl
+slice_get-take (x ∷ xs) (suc n) zero h = refl
+slice_get-take (x ∷ xs) (suc n) (suc i) h = slice_get-take xs n i (omega arith)
 
-pub no_tree_lem : (ns : List ℕ) (lines : TreeLines) (tree line : ℕ) → None ≡ slice_get ns tree → None ≡ slice_get (get_or (pieces ns lines) tree []) line
-no_tree_lem ns lines tree line e = sym (ap (λ (l : TreeLines). slice_get l line) (piece_past ns lines tree e))
+drop-min : {X : Type 0} (xs : List X) (n : ℕ) → drop (min n (length xs)) xs ≡ drop n xs
+drop-min xs n =
+    ⊎_elim
+    (λ h. let e : min n (length xs) ≡ n = omega (arith, ltb-true n (length xs) h) in ap (λ k. drop k xs) e)
+    (λ h. let past : length xs ≤ n = ltb-false n (length xs) h in drop_all (min n (length xs)) xs (omega arith) ∙ sym (drop_all n xs past))
+    (cases_Bool (ltb n (length xs)))
 
-module _ (count : ℕ) (lengths : List ℕ) (lines : TreeLines) (tree line n begin : ℕ) (there : Some n ≡ slice_get (take count lengths) tree) (ends : ℕ) (same_end : ends ≡ tree) (told : begin ≡ min (lines_in (take ends lengths)) (length lines)) where
-  begins : begin ≡ min (lines_in (take tree lengths)) (length lines)
-  begins = told ∙ ap (λ k. min (lines_in (take k lengths)) (length lines)) same_end
+module _ (ns : List ℕ) (lines : TreeLines) (tree line : ℕ) where
+  pub no_shelved_tree : slice_get ns tree ≡ None → slice_get (get_or (pieces ns lines) tree []) line ≡ None
+  no_shelved_tree e = ap (λ (l : TreeLines). slice_get l line) (piece_past ns lines tree e)
 
-  abbrev start : ℕ
-  start = lines_in (take tree lengths)
+  opened : (n : ℕ) → slice_get ns tree ≡ Some n → slice_get (get_or (pieces ns lines) tree []) line ≡ slice_get (take n (drop (lines_in (take tree ns)) lines)) line
+  opened n e = ap (λ (l : TreeLines). slice_get l line) (piece_is ns lines tree n e)
 
-  in_count : tree ≤ count
-  in_count = let h : tree < length (take count lengths) = nth_some (take count lengths) tree n there in omega (arith, length-take count lengths)
+  pub no_shelved_line : (n : ℕ) → slice_get ns tree ≡ Some n → n ≤ line → slice_get (get_or (pieces ns lines) tree []) line ≡ None
+  no_shelved_line n e past =
+      let xs = drop (lines_in (take tree ns)) lines in
+      opened n e ∙ slice_get_past (take n xs) line (omega (arith, length-take n xs))
 
-  opened : slice_get (get_or (pieces (take count lengths) lines) tree []) line ≡ slice_get (take n (drop start lines)) line
-  opened = ap (λ (l : TreeLines). slice_get l line) (piece_is (take count lengths) lines tree n there ∙ ap (λ ms. take n (drop (lines_in ms) lines)) (take-take tree count lengths in_count))
-
-  pub no_line : (n ≤ line) ⊎ ((line < n) × (length lines - begin ≤ line)) → None ≡ slice_get (get_or (pieces (take count lengths) lines) tree []) line
-  no_line gone = sym (opened ∙ slice_get_past (take n (drop start lines)) line (short gone))
-    where
-      short : (n ≤ line) ⊎ ((line < n) × (length lines - begin ≤ line)) → length (take n (drop start lines)) ≤ line
-      short gone = ⊎_elim (λ a. omega (arith, length-take n (drop start lines))) (λ b. omega (arith, length-take n (drop start lines), length-drop start lines, begins, b.1)) gone
-
-  pub a_line : (x d : TreeLine) → line < n → line < length lines - begin → x ≡ get_or lines (begin + line) d → Some x ≡ slice_get (get_or (pieces (take count lengths) lines) tree []) line
-  a_line x d small room is =
-      let same : begin ≡ start = omega (arith, begins) in
-      let long : line < length (take n (drop start lines)) = omega (arith, length-take n (drop start lines), length-drop start lines, begins) in
-      sym (opened ∙ slice_get-get_or _ line d long
-      ∙ ap Some (get_or-take n (drop start lines) line d small ∙ get_or-drop start lines line d ∙ ap (λ b. get_or lines (b + line) d) (sym same) ∙ sym is))
+  pub shelved_line_is : (n begin : ℕ) → slice_get ns tree ≡ Some n → line < n → begin ≡ min (lines_in (take tree ns)) (length lines)
+      → slice_get (get_or (pieces ns lines) tree []) line ≡ slice_get (drop begin lines) line
+  shelved_line_is n begin e inside told =
+      opened n e ∙ slice_get-take (drop (lines_in (take tree ns)) lines) n line inside
+      ∙ ap (λ (l : TreeLines). slice_get l line) (sym (ap (λ k. drop k lines) told ∙ drop-min lines (lines_in (take tree ns))))

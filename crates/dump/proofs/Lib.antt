@@ -1,3 +1,3 @@
-pub mod Fields
+pub mod Slots
 pub mod Found
 pub mod Roles

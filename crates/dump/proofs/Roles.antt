@@ -1,6 +1,9 @@
 -- A set that is written role by role, the lowest first.
 use Rattle.std.proofs.Common.{◌≡◌, ℕ, zero, suc, ◌^◌, ◌<◌, ◌≤◌, Bool, true, false, cond, not, ◌&&◌, eqb, List, [], ◌∷◌, ◌++◌, codes, decimal, sym, refl, ap, ◌∙◌, subst, ⊎_elim, append_assoc, append-nil, arith}
 use Rattle.std.proofs.lemmas.Bool.{cond-true, cond-false, cases_Bool, cases_eq, and_left, and_right, and_parts, eq-eqb, ne_eqb, not_from_true}
+use Rattle.std.specs.declared.fmt.Formatter.{Formatter}
+use Rattle.std.specs.Fmt.{HasWritten, IsPlainFormatter}
+use Rattle.std.proofs.Output.{has_written_append, has_written_of_eq, writes_in_calls_nil}
 use Rattle.order.specs.RoleSets.{has, In, Lowest}
 use Rattle.order.proofs.Bits.{has-none, has-below}
 use Rattle.dump.specs.Texts.{roles_below, roles_of, role_texts}
@@ -52,29 +55,39 @@ module _ {set role rest : ℕ} (l : Lowest set role rest) where
   first_below (suc n) h = ⊎_elim (here n) (λ ne. there n ne (first_below n (omega arith))) (cases_eq role n)
 
 -- the loop's invariant: what is written, and the roles to come, are all roles
-pub record Sofar (text comma : List ℕ) (left set : ℕ) : Type 0 where
+pub record Sofar {W : Type 0} (took : W → List ℕ → W → Type 0) (first f : Formatter W) (comma : List ℕ) (left set : ℕ) : Type 0 where
+  pub text : List ℕ
+  pub wrote : HasWritten took first text f
   pub small : (x : ℕ) → In x left → x < 64
-  pub whole : text ++ role_texts comma (roles_of left) ≡ codes "{" ++ role_texts [] (roles_of set)
+  pub whole : text ++ role_texts comma (roles_of left) ≡ role_texts [] (roles_of set)
+  pub plain : IsPlainFormatter f
 
-pub none_yet : (text : List ℕ) (left set : ℕ) → set < 2 ^ 64 → left ≡ set → text ≡ codes "{" → Sofar text [] left set
-none_yet text left set fits same is = record {
-  small = λ x t. has-below 64 set x fits (subst (λ (n : ℕ). In x n) same t);
-  whole = ap (λ t. t ++ role_texts [] (roles_of left)) is ∙ ap (λ n. codes "{" ++ role_texts [] (roles_of n)) same;
-}
-
-module _ {text comma : List ℕ} {left set : ℕ} (old : Sofar text comma left set) where
-  pub one_more : (role rest : ℕ) (text' piece : List ℕ) → Lowest left role rest → text' ≡ text ++ piece → piece ≡ comma ++ decimal role → Sofar text' (codes ",") rest set
-  one_more role rest text' piece l is piece_is = record {
-    small = λ x t. old.small x (and_parts (has left x) (not (eqb role x)) (sym (l.others x) ∙ t)).0;
-    whole =
-        ap (λ t. t ++ role_texts (codes ",") (roles_of rest)) (is ∙ ap (λ t. text ++ t) piece_is)
-        ∙ append_assoc text (comma ++ decimal role) (role_texts (codes ",") (roles_of rest))
-        ∙ ap (λ t. text ++ t) (append_assoc comma (decimal role) (role_texts (codes ",") (roles_of rest)))
-        ∙ ap (λ rs. text ++ role_texts comma rs) (sym (first_below l 64 (old.small role l.member)))
-        ∙ old.whole;
+module _ {W : Type 0} (took : W → List ℕ → W → Type 0) (first : Formatter W) where
+  pub none_yet : (left set : ℕ) → set < 2 ^ 64 → left ≡ set → IsPlainFormatter first → Sofar took first first [] left set
+  none_yet left set fits same plain = record {
+    text = [];
+    wrote = record { wrote = writes_in_calls_nil took _; plain = plain };
+    small = λ x t. has-below 64 set x fits (subst (λ (n : ℕ). In x n) same t);
+    whole = ap (λ n. role_texts [] (roles_of n)) same;
+    plain = plain;
   }
 
-  pub all_written : (text' : List ℕ) → left ≡ 0 → text' ≡ text ++ codes "}" → text' ≡ codes "{" ++ (role_texts [] (roles_of set) ++ codes "}")
-  all_written text' none is =
-      is ∙ ap (λ t. t ++ codes "}") (sym (append-nil text) ∙ ap (λ rs. text ++ role_texts comma rs) (sym (ap roles_of none ∙ none_below 0 64 (λ k _. has-none k))) ∙ old.whole)
-      ∙ append_assoc (codes "{") (role_texts [] (roles_of set)) (codes "}")
+  module _ {f : Formatter W} {comma : List ℕ} {left set : ℕ} (old : Sofar took first f comma left set) where
+    pub one_more : (role rest : ℕ) (g : Formatter W) → Lowest left role rest → HasWritten took f (comma ++ decimal role) g → Sofar took first g (codes ",") rest set
+    one_more role rest g l more = record {
+      text = old.text ++ (comma ++ decimal role);
+      wrote = has_written_append took _ _ _ _ _ old.wrote more;
+      small = λ x t. old.small x (and_parts (has left x) (not (eqb role x)) (sym (l.others x) ∙ t)).0;
+      whole =
+          append_assoc old.text (comma ++ decimal role) (role_texts (codes ",") (roles_of rest))
+          ∙ ap (λ t. old.text ++ t) (append_assoc comma (decimal role) (role_texts (codes ",") (roles_of rest)))
+          ∙ ap (λ rs. old.text ++ role_texts comma rs) (sym (first_below l 64 (old.small role l.member)))
+          ∙ old.whole;
+      plain = more.plain;
+    }
+
+    pub all_written : left ≡ 0 → HasWritten took first (role_texts [] (roles_of set)) f
+    all_written none =
+        has_written_of_eq took _ _ _ _
+        (sym (append-nil old.text) ∙ ap (λ rs. old.text ++ role_texts comma rs) (sym (ap roles_of none ∙ none_below 0 64 (λ k _. has-none k))) ∙ old.whole)
+        old.wrote

@@ -14,11 +14,8 @@ use Rattle.dump.specs.Texts.{fields_text}
 -- ---- the tables
 
 -- `table T row R: F F ..`
-abbrev pub row_head : ℕ → ℕ → List ℕ
-row_head table row = codes "table " ++ (decimal table ++ (codes " row " ++ (decimal row ++ codes ":")))
-
 abbrev pub row_line : {R : Type 0} → (R → List Field) → ℕ → ℕ → R → List ℕ
-row_line fields table row r = row_head table row ++ fields_text (fields r)
+row_line fields table row r = codes "table " ++ (decimal table ++ (codes " row " ++ (decimal row ++ (codes ":" ++ fields_text (fields r)))))
 
 -- The edges of all locations, of which the first is `l`.
 abbrev pub edges_from : ℕ → List TreeLines → List EdgeRow
@@ -51,11 +48,8 @@ slots_text k [] = []
 slots_text k (s ∷ slots) = slot_text k s ++ slots_text (k + 1) slots
 
 -- `running P: L SET C`, and the filled slots behind it
-abbrev pub running_head : ℕ → List ℕ
-running_head position = codes "running " ++ (decimal position ++ codes ":")
-
 abbrev pub running_line : ℕ → RunningRow → List ℕ
-running_line position r = (running_head position ++ fields_text (running_fields r)) ++ slots_text 0 r.slots
+running_line position r = codes "running " ++ (decimal position ++ (codes ":" ++ (fields_text (running_fields r) ++ slots_text 0 r.slots)))
 
 abbrev pub running_text : Network → ℕ → Option (List ℕ)
 running_text n position = option_map (running_line position) (slice_get n.running position)
@@ -75,11 +69,8 @@ abbrev pub shelf_text : List ℕ → ℕ → Option (List ℕ)
 shelf_text lengths tree = option_map (shelf_line tree) (slice_get lengths tree)
 
 -- `shelf T line I: D LABEL SET KIND FIRST SECOND`
-abbrev pub shelf_head : ℕ → ℕ → List ℕ
-shelf_head tree line = codes "shelf " ++ (decimal tree ++ (codes " line " ++ (decimal line ++ codes ":")))
-
 abbrev pub shelved_line : ℕ → ℕ → TreeLine → List ℕ
-shelved_line tree line r = shelf_head tree line ++ fields_text (line_fields r)
+shelved_line tree line r = codes "shelf " ++ (decimal tree ++ (codes " line " ++ (decimal line ++ (codes ":" ++ fields_text (line_fields r)))))
 
 abbrev pub shelf_line_text : Network → ℕ → ℕ → Option (List ℕ)
 shelf_line_text n tree line = option_map (shelved_line tree line) (slice_get (slice_index_or n.shelf tree []) line)

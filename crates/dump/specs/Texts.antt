@@ -1,5 +1,5 @@
 -- How a row is written: its numbers in their order, role sets as sets.
-use Rattle.std.specs.Prelude.{ℕ, zero, suc, cond, List, [], ◌∷◌, ◌++◌, codes, decimal}
+use Rattle.std.specs.Prelude.{ℕ, zero, suc, cond, List, [], ◌∷◌, ◌++◌, codes, decimal, flat_map}
 use Rattle.order.specs.RoleSets.{has}
 use Rattle.dump.specs.declared.field.Field.{Field}
 use Rattle.dump.specs.declared.field.Field.TheVariants.{Number, Set}
@@ -26,7 +26,10 @@ abbrev pub field_text : Field → List ℕ
 field_text (Number n) = decimal n
 field_text (Set s) = set_text s
 
+-- A field with a space before it.
+abbrev pub spaced : Field → List ℕ
+spaced f = codes " " ++ field_text f
+
 -- The fields, a space before each.
 abbrev pub fields_text : List Field → List ℕ
-fields_text [] = []
-fields_text (f ∷ fs) = codes " " ++ (field_text f ++ fields_text fs)
+fields_text fields = flat_map spaced fields

@@ -1,24 +1,13 @@
 // The rows in use.
-ghost use Rattle.std.specs.Prelude.{◌≡◌, ◌<◌, min, [], map, length, take, OnSome, slice_index_or};
+ghost use Rattle.std.specs.Prelude.{◌≡◌, min, [], map, slice_index_or};
 ghost use Rattle.std.specs.List.{slice_get};
 ghost use Rattle.layout.specs.Held.{in_use};
 ghost use Rattle.layout.specs.Network.{pieces};
 ghost use Rattle.dump.specs.Dumping.{edges_from, lines_in};
 
-use layout::{Tables, sized};
+use layout::{Shelf, Tables, sized};
 use places::edge_place;
 use rows::{EdgeRow, TreeLine};
-
-// The first `count` rows are in use, if the array has so many.
-pub(crate) fn row_at<R: Copy>(count: usize, rows: &[R], row: usize) -> Option<R>
-    ensures answer { result ≡ slice_get (take count rows.now) row }
-    ensures within { OnSome result (row < length rows.now) }
-{
-    if row >= count || row >= rows.len() {
-        return None;
-    }
-    Some(rows[row])
-}
 
 // The edge with this number over all locations.
 pub(crate) fn edge_at(tables: &Tables, row: usize) -> Option<EdgeRow>
@@ -36,31 +25,22 @@ pub(crate) fn edge_at(tables: &Tables, row: usize) -> Option<EdgeRow>
 fn begins(lengths: &[usize], most: usize) -> usize
     ensures answer { result ≡ min (lines_in lengths.now) most }
 {
-    let mut begin = 0;
-    for length in lengths {
-        begin = if *length < most - begin {
-            begin + *length
-        } else {
-            most
-        };
-    }
-    begin
+    lengths.iter().fold(
+        0usize,
+        |begin, length| begin.saturating_add(*length).min(most),
+    )
 }
 
 // The line of the shelved tree. The trees stand one behind the other.
-pub(crate) fn shelved_at(
-    count: usize,
-    lengths: &[usize],
-    lines: &[TreeLine],
-    tree: usize,
-    line: usize,
-) -> Option<TreeLine>
-    ensures answer { result ≡ slice_get (slice_index_or (pieces (take count lengths.now) lines.now) tree []) line }
+pub(crate) fn shelved_at(shelf: &Shelf, tree: usize, line: usize) -> Option<TreeLine>
+    ensures answer { result ≡ slice_get (slice_index_or (pieces (in_use shelf.now.trees) shelf.now.lines) tree []) line }
 {
-    let length = row_at(count, lengths, tree)?;
-    let begin = begins(&lengths[0..tree], lines.len());
-    if line >= length || line >= lines.len() - begin {
+    let lengths = shelf.trees.in_use();
+    let length = lengths.get(tree).copied()?;
+    if line >= length {
         return None;
     }
-    Some(lines[begin + line])
+    let begin = begins(&lengths[..tree], shelf.lines.len());
+    let lines = &shelf.lines[begin..];
+    lines.get(line).copied()
 }

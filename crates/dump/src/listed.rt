@@ -1,11 +1,10 @@
 // The fields of each row.
-ghost use Rattle.std.specs.Prelude.{◌≡◌, List, ◌∷◌, ◌++◌, string_bytes, OnOk};
-ghost use Rattle.dump.specs.declared.field.Field.{Field};
+ghost use Rattle.std.specs.Prelude.{◌≡◌, List, ◌∷◌, IfOk};
 ghost use Rattle.dump.specs.declared.field.Field.TheVariants.{Number};
-ghost use Rattle.dump.specs.Texts.{fields_text};
+ghost use Rattle.dump.specs.declared.field.Field.{Field};
 ghost use Rattle.dump.specs.Listed.{policy_fields, grant_fields, location_fields, step_fields, line_fields, edge_fields, template_fields, pattern_fields, command_fields, job_fields, running_fields};
 
-use super::field::{Field, push_fields};
+use super::field::Field;
 use layout::RunningRow;
 use rows::{
     CommandRow, EdgeRow, GrantRow, JobRow, LocationRow, PathStepRow, PatternRow, PolicyRow,
@@ -13,182 +12,147 @@ use rows::{
 };
 use std::alloc::{AllocError, Global};
 
-// A row that is written as its fields, behind what is written already.
+// A row that is written as its fields.
 pub(crate) trait Fields: Copy {
     ghost listed: { Self → List Field };
 
-    fn push(self, heap: Global, text: &mut String) -> Result<(), AllocError>
-        ensures answer { OnOk result (string_bytes text.new ≡ string_bytes text.old ++ fields_text (listed self)) };
-}
-
-fn number(value: u32) -> Field
-    ensures answer { result ≡ Number value }
-{
-    Field::Number(u64::from(value))
+    fn fields(self, heap: Global) -> Result<Vec<Field>, AllocError>
+        ensures answer { IfOk result (λ fields. fields.items ≡ listed self) };
 }
 
 // A tree's line behind the number that says where it belongs.
-fn led_fields(first: u32, row: TreeLine) -> [Field; 7]
-    ensures answer { result ≡ Number first ∷ line_fields row }
+fn led_fields(heap: Global, first: u32, line: TreeLine) -> Result<Vec<Field>, AllocError>
+    ensures answer { IfOk result (λ fields. fields.items ≡ Number first ∷ line_fields line) }
 {
-    [
-        number(first),
-        number(row.depth),
-        number(row.label),
-        Field::Set(row.set),
-        number(row.content),
-        number(row.first),
-        number(row.second),
-    ]
+    let mut fields = line.fields(heap)?;
+    fields.insert(0, Field::from(first))?;
+    Ok(fields)
 }
 
 impl Fields for PolicyRow {
     ghost listed = { policy_fields };
 
-    fn push(self, heap: Global, text: &mut String) -> Result<(), AllocError> {
-        push_fields(heap, text, &[Field::Set(self.least)])
+    fn fields(self, heap: Global) -> Result<Vec<Field>, AllocError> {
+        Ok(vec![in heap; Field::Set(self.least)]?)
     }
 }
 
 impl Fields for GrantRow {
     ghost listed = { grant_fields };
 
-    fn push(self, heap: Global, text: &mut String) -> Result<(), AllocError> {
-        push_fields(
-            heap,
-            text,
-            &[
-                number(self.policy),
-                number(self.direction),
-                Field::Set(self.holder),
-                number(self.role),
-            ],
-        )
+    fn fields(self, heap: Global) -> Result<Vec<Field>, AllocError> {
+        Ok(vec![in heap;
+            Field::from(self.policy),
+            Field::from(self.direction),
+            Field::Set(self.holder),
+            Field::from(self.role),
+        ]?)
     }
 }
 
 impl Fields for LocationRow {
     ghost listed = { location_fields };
 
-    fn push(self, heap: Global, text: &mut String) -> Result<(), AllocError> {
-        push_fields(heap, text, &[number(self.policy)])
+    fn fields(self, heap: Global) -> Result<Vec<Field>, AllocError> {
+        Ok(vec![in heap; Field::from(self.policy)]?)
     }
 }
 
 impl Fields for PathStepRow {
     ghost listed = { step_fields };
 
-    fn push(self, heap: Global, text: &mut String) -> Result<(), AllocError> {
-        push_fields(
-            heap,
-            text,
-            &[number(self.path), number(self.label), Field::Set(self.set)],
-        )
+    fn fields(self, heap: Global) -> Result<Vec<Field>, AllocError> {
+        Ok(vec![in heap;
+            Field::from(self.path),
+            Field::from(self.label),
+            Field::Set(self.set),
+        ]?)
     }
 }
 
 impl Fields for TreeLine {
     ghost listed = { line_fields };
 
-    fn push(self, heap: Global, text: &mut String) -> Result<(), AllocError> {
-        push_fields(
-            heap,
-            text,
-            &[
-                number(self.depth),
-                number(self.label),
-                Field::Set(self.set),
-                number(self.content),
-                number(self.first),
-                number(self.second),
-            ],
-        )
+    fn fields(self, heap: Global) -> Result<Vec<Field>, AllocError> {
+        Ok(vec![in heap;
+            Field::from(self.depth),
+            Field::from(self.label),
+            Field::Set(self.set),
+            Field::from(self.content),
+            Field::from(self.first),
+            Field::from(self.second),
+        ]?)
     }
 }
 
 impl Fields for EdgeRow {
     ghost listed = { edge_fields };
 
-    fn push(self, heap: Global, text: &mut String) -> Result<(), AllocError> {
-        push_fields(heap, text, &led_fields(self.location, self.line))
+    fn fields(self, heap: Global) -> Result<Vec<Field>, AllocError> {
+        led_fields(heap, self.location, self.line)
     }
 }
 
 impl Fields for TemplateRow {
     ghost listed = { template_fields };
 
-    fn push(self, heap: Global, text: &mut String) -> Result<(), AllocError> {
-        push_fields(heap, text, &led_fields(self.template, self.line))
+    fn fields(self, heap: Global) -> Result<Vec<Field>, AllocError> {
+        led_fields(heap, self.template, self.line)
     }
 }
 
 impl Fields for PatternRow {
     ghost listed = { pattern_fields };
 
-    fn push(self, heap: Global, text: &mut String) -> Result<(), AllocError> {
-        push_fields(
-            heap,
-            text,
-            &[
-                number(self.kind),
-                number(self.slot),
-                number(self.policy),
-                Field::Set(self.first),
-                Field::Set(self.second),
-            ],
-        )
+    fn fields(self, heap: Global) -> Result<Vec<Field>, AllocError> {
+        Ok(vec![in heap;
+            Field::from(self.kind),
+            Field::from(self.slot),
+            Field::from(self.policy),
+            Field::Set(self.first),
+            Field::Set(self.second),
+        ]?)
     }
 }
 
 impl Fields for CommandRow {
     ghost listed = { command_fields };
 
-    fn push(self, heap: Global, text: &mut String) -> Result<(), AllocError> {
-        push_fields(
-            heap,
-            text,
-            &[
-                number(self.verb),
-                number(self.next),
-                number(self.operand_kind),
-                number(self.operand),
-                Field::Number(self.first),
-                number(self.second),
-                number(self.third),
-                number(self.fourth),
-            ],
-        )
+    fn fields(self, heap: Global) -> Result<Vec<Field>, AllocError> {
+        Ok(vec![in heap;
+            Field::from(self.verb),
+            Field::from(self.next),
+            Field::from(self.operand_kind),
+            Field::from(self.operand),
+            Field::Number(self.first),
+            Field::from(self.second),
+            Field::from(self.third),
+            Field::from(self.fourth),
+        ]?)
     }
 }
 
 impl Fields for JobRow {
     ghost listed = { job_fields };
 
-    fn push(self, heap: Global, text: &mut String) -> Result<(), AllocError> {
-        push_fields(
-            heap,
-            text,
-            &[
-                number(self.policy),
-                Field::Set(self.roles),
-                number(self.command),
-            ],
-        )
+    fn fields(self, heap: Global) -> Result<Vec<Field>, AllocError> {
+        Ok(vec![in heap;
+            Field::from(self.policy),
+            Field::Set(self.roles),
+            Field::from(self.command),
+        ]?)
     }
 }
 
+// A running job, but for its slots.
 impl Fields for RunningRow {
     ghost listed = { running_fields };
 
-    fn push(self, heap: Global, text: &mut String) -> Result<(), AllocError> {
-        push_fields(
-            heap,
-            text,
-            &[
-                number(self.location),
-                Field::Set(self.roles),
-                number(self.command),
-            ],
-        )
+    fn fields(self, heap: Global) -> Result<Vec<Field>, AllocError> {
+        Ok(vec![in heap;
+            Field::from(self.location),
+            Field::Set(self.roles),
+            Field::from(self.command),
+        ]?)
     }
 }

@@ -14,7 +14,8 @@ use Rattle.rows.specs.declared.row.JobRow.{JobRow}
 use Rattle.layout.specs.declared.held.Table.{Table}
 use Rattle.layout.specs.declared.memory.Tables.{Tables}
 use Rattle.layout.specs.Held.{held, pushed}
-use Rattle.layout.specs.Network.{Network, TreeLines, tree_of, stored, Fits, Holds}
+use Rattle.layout.specs.Network.{Network, TreeLines, tree_of, network, stored, Fits, Holds}
+use Rattle.layout.proofs.Back.{holds_network}
 use Rattle.layout.specs.Zeros.{policy0, grant0, location0, step0, line0, template0, pattern0, command0, job0, no_tree}
 use Rattle.layout.proofs.Pads.{held-push}
 use Rattle.filing.specs.declared.decoded.Row.{Row}
@@ -61,7 +62,7 @@ module _ {X : Type 0} {k : ℕ} (limit : ℕ) (z : X) (get : Tables → Table X 
 -- ---- the tables, one by one
 
 abbrev pub put_policies : Tables → Table PolicyRow 16 → Tables
-put_policies t u = record { policies = u; grants = t.grants; locations = t.locations; steps = t.steps; trees = t.trees; templates = t.templates; patterns = t.patterns; commands = t.commands; jobs = t.jobs; running = t.running; shelf = t.shelf }
+put_policies t u = record t { policies = u }
 
 fits_policies : (n : Network) → Fits n → (xs : List PolicyRow) → length xs ≤ 16 → Fits (with_plan n (with_policies n.plan xs))
 fits_policies n h xs few = record { policies = few; grants = h.grants; locations = h.locations; steps = h.steps; trees = h.trees; edges = h.edges; templates = h.templates; patterns = h.patterns; commands = h.commands; jobs = h.jobs; running = h.running; shelf = h.shelf; shelved = h.shelved }
@@ -73,7 +74,7 @@ push_policies =
     (λ t. refl) (λ n h. refl) (λ n h xs. refl) fits_policies
 
 abbrev pub put_grants : Tables → Table GrantRow 64 → Tables
-put_grants t u = record { policies = t.policies; grants = u; locations = t.locations; steps = t.steps; trees = t.trees; templates = t.templates; patterns = t.patterns; commands = t.commands; jobs = t.jobs; running = t.running; shelf = t.shelf }
+put_grants t u = record t { grants = u }
 
 fits_grants : (n : Network) → Fits n → (xs : List GrantRow) → length xs ≤ 64 → Fits (with_plan n (with_grants n.plan xs))
 fits_grants n h xs few = record { policies = h.policies; grants = few; locations = h.locations; steps = h.steps; trees = h.trees; edges = h.edges; templates = h.templates; patterns = h.patterns; commands = h.commands; jobs = h.jobs; running = h.running; shelf = h.shelf; shelved = h.shelved }
@@ -85,7 +86,7 @@ push_grants =
     (λ t. refl) (λ n h. refl) (λ n h xs. refl) fits_grants
 
 abbrev pub put_locations : Tables → Table LocationRow 16 → Tables
-put_locations t u = record { policies = t.policies; grants = t.grants; locations = u; steps = t.steps; trees = t.trees; templates = t.templates; patterns = t.patterns; commands = t.commands; jobs = t.jobs; running = t.running; shelf = t.shelf }
+put_locations t u = record t { locations = u }
 
 fits_locations : (n : Network) → Fits n → (xs : List LocationRow) → length xs ≤ 16 → Fits (with_plan n (with_locations n.plan xs))
 fits_locations n h xs few = record { policies = h.policies; grants = h.grants; locations = few; steps = h.steps; trees = h.trees; edges = h.edges; templates = h.templates; patterns = h.patterns; commands = h.commands; jobs = h.jobs; running = h.running; shelf = h.shelf; shelved = h.shelved }
@@ -97,7 +98,7 @@ push_locations =
     (λ t. refl) (λ n h. refl) (λ n h xs. refl) fits_locations
 
 abbrev pub put_steps : Tables → Table PathStepRow 256 → Tables
-put_steps t u = record { policies = t.policies; grants = t.grants; locations = t.locations; steps = u; trees = t.trees; templates = t.templates; patterns = t.patterns; commands = t.commands; jobs = t.jobs; running = t.running; shelf = t.shelf }
+put_steps t u = record t { steps = u }
 
 fits_steps : (n : Network) → Fits n → (xs : List PathStepRow) → length xs ≤ 256 → Fits (with_plan n (with_steps n.plan xs))
 fits_steps n h xs few = record { policies = h.policies; grants = h.grants; locations = h.locations; steps = few; trees = h.trees; edges = h.edges; templates = h.templates; patterns = h.patterns; commands = h.commands; jobs = h.jobs; running = h.running; shelf = h.shelf; shelved = h.shelved }
@@ -109,7 +110,7 @@ push_steps =
     (λ t. refl) (λ n h. refl) (λ n h xs. refl) fits_steps
 
 abbrev pub put_templates : Tables → Table TemplateRow 256 → Tables
-put_templates t u = record { policies = t.policies; grants = t.grants; locations = t.locations; steps = t.steps; trees = t.trees; templates = u; patterns = t.patterns; commands = t.commands; jobs = t.jobs; running = t.running; shelf = t.shelf }
+put_templates t u = record t { templates = u }
 
 fits_templates : (n : Network) → Fits n → (xs : List TemplateRow) → length xs ≤ 256 → Fits (with_plan n (with_templates n.plan xs))
 fits_templates n h xs few = record { policies = h.policies; grants = h.grants; locations = h.locations; steps = h.steps; trees = h.trees; edges = h.edges; templates = few; patterns = h.patterns; commands = h.commands; jobs = h.jobs; running = h.running; shelf = h.shelf; shelved = h.shelved }
@@ -121,7 +122,7 @@ push_templates =
     (λ t. refl) (λ n h. refl) (λ n h xs. refl) fits_templates
 
 abbrev pub put_patterns : Tables → Table PatternRow 64 → Tables
-put_patterns t u = record { policies = t.policies; grants = t.grants; locations = t.locations; steps = t.steps; trees = t.trees; templates = t.templates; patterns = u; commands = t.commands; jobs = t.jobs; running = t.running; shelf = t.shelf }
+put_patterns t u = record t { patterns = u }
 
 fits_patterns : (n : Network) → Fits n → (xs : List PatternRow) → length xs ≤ 64 → Fits (with_plan n (with_patterns n.plan xs))
 fits_patterns n h xs few = record { policies = h.policies; grants = h.grants; locations = h.locations; steps = h.steps; trees = h.trees; edges = h.edges; templates = h.templates; patterns = few; commands = h.commands; jobs = h.jobs; running = h.running; shelf = h.shelf; shelved = h.shelved }
@@ -133,7 +134,7 @@ push_patterns =
     (λ t. refl) (λ n h. refl) (λ n h xs. refl) fits_patterns
 
 abbrev pub put_commands : Tables → Table CommandRow 255 → Tables
-put_commands t u = record { policies = t.policies; grants = t.grants; locations = t.locations; steps = t.steps; trees = t.trees; templates = t.templates; patterns = t.patterns; commands = u; jobs = t.jobs; running = t.running; shelf = t.shelf }
+put_commands t u = record t { commands = u }
 
 fits_commands : (n : Network) → Fits n → (xs : List CommandRow) → length xs ≤ 255 → Fits (with_plan n (with_commands n.plan xs))
 fits_commands n h xs few = record { policies = h.policies; grants = h.grants; locations = h.locations; steps = h.steps; trees = h.trees; edges = h.edges; templates = h.templates; patterns = h.patterns; commands = few; jobs = h.jobs; running = h.running; shelf = h.shelf; shelved = h.shelved }
@@ -145,7 +146,7 @@ push_commands =
     (λ t. refl) (λ n h. refl) (λ n h xs. refl) fits_commands
 
 abbrev pub put_jobs : Tables → Table JobRow 64 → Tables
-put_jobs t u = record { policies = t.policies; grants = t.grants; locations = t.locations; steps = t.steps; trees = t.trees; templates = t.templates; patterns = t.patterns; commands = t.commands; jobs = u; running = t.running; shelf = t.shelf }
+put_jobs t u = record t { jobs = u }
 
 fits_jobs : (n : Network) → Fits n → (xs : List JobRow) → length xs ≤ 64 → Fits (with_plan n (with_jobs n.plan xs))
 fits_jobs n h xs few = record { policies = h.policies; grants = h.grants; locations = h.locations; steps = h.steps; trees = h.trees; edges = h.edges; templates = h.templates; patterns = h.patterns; commands = h.commands; jobs = few; running = h.running; shelf = h.shelf; shelved = h.shelved }
@@ -163,7 +164,7 @@ abbrev with_tree : ℕ → Network → TreeLines → Network
 with_tree l n lines = with_trees n (set n.trees l lines)
 
 abbrev put_trees : Tables → List (Table TreeLine 128) → Tables
-put_trees t ts = record { policies = t.policies; grants = t.grants; locations = t.locations; steps = t.steps; trees = ts; templates = t.templates; patterns = t.patterns; commands = t.commands; jobs = t.jobs; running = t.running; shelf = t.shelf }
+put_trees t ts = record t { trees = ts }
 
 tree-lines : (l : ℕ) (ts : List TreeLines) (lines : TreeLines) → l < length ts → length lines ≤ 128 → ((k : ℕ) → length (get_or ts k []) ≤ 128)
     → (k : ℕ) → length (get_or (set ts l lines) k []) ≤ 128
@@ -188,9 +189,8 @@ push_tree l less =
 
 -- ---- the row that a case has
 
-pub record Puts (t : Tables) (n : Network) (row : Row) (r : Bool) : Type 0 where
-  pub answer : r ≡ has_room n row
-  pub after : Holds t (cond r (filed n row) n)
+abbrev pub Puts : Tables → Network → Row → Bool → Type 0
+Puts t n row r = record { answer : r ≡ has_room n row; after : Holds t (cond r (filed n row) n) }
 
 pub puts : (t : Tables) (n : Network) (row case : Row) (r : Bool) → row ≡ case → Gives t n r (has_room n case) (filed n case) → Puts t n row r
 puts t n row case r e g = subst (λ (x : Row). Puts t n x r) (sym e) (record { answer = g.answer; after = g.after })
@@ -199,3 +199,7 @@ puts t n row case r e g = subst (λ (x : Row). Puts t n x r) (sym e) (record { a
 pub within : (t : Tables) (n more : Network) (r room : Bool) (number limit : ℕ) → number < limit → Gives t n r room more → Gives t n r (ltb number limit && room) more
 within t n more r room number limit less g =
     record { answer = g.answer ∙ sym (ap (λ (b : Bool). b && room) (lt-ltb number limit less)); after = g.after }
+
+-- tables that hold a network hold the one that is read off them
+pub holds_own : (t : Tables) (n : Network) → Holds t n → Holds t (network t)
+holds_own t n h = subst (λ (m : Network). Holds t m) (sym (holds_network t n h)) h

@@ -139,6 +139,16 @@ behind before row = record { kind = Some (row_kind row); location = location_aft
 abbrev pub placed : Before → Network → Row → Result Before Misplaced
 placed before n row = cond (in_place before n row) (cond (has_room n row) (Ok (behind before row)) (Err Full)) (Err OutOfPlace)
 
+-- what is told of it
+abbrev pub told : Result Before Misplaced → Result (Unit {0}) Misplaced
+told (Ok before) = Ok tt
+told (Err why) = Err why
+
+-- what is known then, and the network: as before, where the row is not filed
+abbrev pub before_after : Before → Result Before Misplaced → Before
+before_after before (Ok after) = after
+before_after before (Err why) = before
+
 abbrev pub network_after : Result Before Misplaced → Network → Row → Network
 network_after (Ok before) n row = filed n row
 network_after (Err why) n row = n

@@ -7,4 +7,4 @@ mod placing;
 mod putting;
 
 pub use decoded::Row;
-pub use placing::{Before, Misplaced, file};
+pub use placing::{Before, Filing, Misplaced};

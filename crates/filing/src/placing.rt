@@ -2,7 +2,7 @@
 ghost use Rattle.std.specs.Prelude.{◌≡◌, ◌-◌, Some, length, slice_get};
 ghost use Rattle.layout.specs.Network.{network, Holds};
 ghost use Rattle.filing.specs.declared.placing.Misplaced.TheVariants.{Full};
-ghost use Rattle.filing.specs.Filing.{runs_on, next_number, in_place, behind, placed, network_after, misplaced_words};
+ghost use Rattle.filing.specs.Filing.{runs_on, next_number, in_place, behind, placed, told, before_after, network_after, misplaced_words};
 
 use super::decoded::Row;
 use super::putting::put;
@@ -14,7 +14,7 @@ use std::fmt;
 
 // What is known of the lines before: the kind of the last one, none before the first, and the location of the last edge,
 // 0 before the first.
-#[derive(Clone, Copy, Debug, PartialEq, Eq)]
+#[derive(Clone, Copy, Debug, Default, PartialEq, Eq)]
 pub struct Before {
     pub kind: Option<LineKind>,
     pub location: u32,
@@ -108,15 +108,37 @@ impl Before {
     }
 }
 
-// The row goes behind the last one of its table, and an edge behind the last one of its location.
-pub fn file(tables: &mut Tables, before: Before, row: Row) -> Result<Before, Misplaced>
-    requires holds { Holds tables.old (network tables.old) }
-    ensures answer { result ≡ placed before (network tables.old) row }
-    ensures after { Holds tables.new (network_after result (network tables.old) row) }
-{
-    if !in_place(tables, before, row) {
-        return Err(Misplaced::OutOfPlace);
+// Tables that are filled line by line, and what is known of the lines before. They hold a network, and nothing else.
+#[derive(Drop)]
+pub struct Filing<'a> {
+    pub(crate) tables: &'a mut Tables,
+    pub(crate) before: Before,
+    ghost holds: { Holds tables.now (network tables.now) },
+}
+
+impl<'a> Filing<'a> {
+    // The tables as they are.
+    pub fn new(tables: &'a mut Tables, before: Before) -> Filing<'a>
+        requires holds { Holds tables.old (network tables.old) }
+        ensures same_reference { result.tables.ghost_name ≡ tables.entry.ghost_name }
+        ensures tables { result.tables.now ≡ tables.old }
+        ensures before { result.before ≡ before }
+    {
+        Filing { tables, before }
     }
-    put(tables, row)?;
-    Ok(before.after(row))
+
+    // The row goes behind the last one of its table, and an edge behind the last one of its location; or all stays as it is.
+    pub fn file(&mut self, row: Row) -> Result<(), Misplaced>
+        ensures same_reference { self.new.tables.ghost_name ≡ self.old.tables.ghost_name }
+        ensures answer { result ≡ told (placed self.old.before (network self.old.tables.now) row) }
+        ensures before { self.new.before ≡ before_after self.old.before (placed self.old.before (network self.old.tables.now) row) }
+        ensures after { Holds self.new.tables.now (network_after (placed self.old.before (network self.old.tables.now) row) (network self.old.tables.now) row) }
+    {
+        if !in_place(self.tables, self.before, row) {
+            return Err(Misplaced::OutOfPlace);
+        }
+        put(self.tables, row)?;
+        self.before = self.before.after(row);
+        Ok(())
+    }
 }

@@ -1,3 +1,4 @@
 pub mod Back
 pub mod Defaults
+pub mod Numbers
 pub mod Pads

@@ -2,3 +2,4 @@ pub mod Held
 pub mod Kinds
 pub mod Network
 pub mod Zeros
+pub mod Slots

@@ -1,4 +1,7 @@
 // The tables of a network. Rows hold numbers; the host may write anything into them.
+ghost use Rattle.std.specs.Prelude.{◌≡◌};
+ghost use Rattle.layout.specs.Slots.{filling};
+
 use super::held::Table;
 use order::RoleSet;
 use rows::{
@@ -11,6 +14,16 @@ use rows::{
 pub struct Slot {
     pub pattern: u32,
     pub value: u32,
+}
+
+impl Slot {
+    // The row of the pattern that filled it, and the value, if one did.
+    pub fn filling(self) -> Option<(usize, u32)>
+        ensures answer { result ≡ filling self }
+    {
+        let row = self.pattern.checked_sub(1)?;
+        Some((row as usize, self.value))
+    }
 }
 
 // A running job: where it is, in which roles, its next command (counted from 1), and its slots.

@@ -4,7 +4,7 @@ use super::sheets::{numbers_of, parts, written};
 use super::tells::tell_place;
 use layout::Tables;
 use order::Order;
-use poke::poke;
+use poke::{Poke, poke};
 use shape::Stage;
 use std::io;
 use tables::{Blank, load};
@@ -75,8 +75,13 @@ fn write_one(rt: &HostRuntime, tables: &mut Tables, text: &str) -> io::Result<bo
     let [table, row, field, value] = numbers.as_slice() else {
         return Ok(numbers.is_empty());
     };
-    let poked = poke(tables, narrow(*table), narrow(*row), narrow(*field), *value);
-    Ok(poked.is_ok())
+    let change = Poke {
+        table: narrow(*table),
+        row: narrow(*row),
+        field: narrow(*field),
+        value: *value,
+    };
+    Ok(poke(tables, change).is_ok())
 }
 
 // Whether all of the numbers were written.

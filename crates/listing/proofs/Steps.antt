@@ -1,9 +1,7 @@
 -- One field more.
-use Rattle.std.proofs.Common.{◌≡◌, ℕ, ◌+◌, ◌<◌, ◌≤◌, List, [], ◌∷◌, ◌++◌, length, get_or, drop, Some, Ok, Option, sym, ap, ◌∙◌, subst}
+use Rattle.std.proofs.Common.{◌≡◌, ℕ, ◌+◌, ◌<◌, ◌≤◌, List, [], ◌∷◌, ◌++◌, length, get_or, drop, sym, ap, ◌∙◌}
 use Rattle.std.proofs.lemmas.List.{append_assoc, append-nil, at_drop_more, at_drop_all}
 use Rattle.number.specs.declared.reading.Width.{Width}
-use Rattle.sheet.specs.declared.line.PlacedLine.{PlacedLine}
-use Rattle.sheet.specs.Showing.{Moves}
 use Rattle.sheet.specs.Fields.{field_at, values}
 
 pub one_more : (was now all : List ℕ) (ws : List Width) (i at : ℕ) (bytes : List ℕ) (d : Width) (r : ℕ × ℕ) → i < length ws
@@ -19,7 +17,3 @@ one_more was now all ws i at bytes d r here e pushed inv =
 pub all_done : (was all : List ℕ) (ws : List Width) (i at : ℕ) (bytes : List ℕ) → length ws ≤ i → was ++ values (drop i ws) at bytes ≡ all → was ≡ all
 all_done was all ws i at bytes done inv =
     sym (append-nil was) ∙ sym (at_drop_all (λ l. was ++ values l at bytes) ws i done) ∙ inv
-
--- a line that was handed out moved the reader on
-pub moved : (o : Option PlacedLine) (l : PlacedLine) (p q : ℕ) → o ≡ Some l → Moves (Ok o) p q → p < q
-moved o l p q e m = subst (λ x. Moves (Ok x) p q) e m

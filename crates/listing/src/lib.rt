@@ -4,4 +4,4 @@
 mod lister;
 mod told;
 
-pub use told::{Listing, Told};
+pub use told::{ListError, Listing};

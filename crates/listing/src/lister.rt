@@ -5,9 +5,8 @@ ghost use Rattle.sheet.specs.Kinds.{widths};
 ghost use Rattle.sheet.specs.Showing.{shows, shown, line_at, place_after};
 ghost use Rattle.listing.specs.Listings.{line_text, seen_of, Tells, count_after};
 
-use super::told::{Listing, Told};
-use answer::{Answer, listed_line};
-use number::ReadFault;
+use super::told::{ListError, Listing};
+use answer::listed_line;
 use rows::field_at;
 use sheet::{Line, PlacedLine, Reader};
 use std::alloc::{AllocError, Global};
@@ -49,27 +48,21 @@ impl<'a> Listing<'a> {
         }
     }
 
-    // What the reader sees next. At the end, and after a fault, it tells the same again.
-    pub fn next(&mut self, heap: Global) -> Result<Told, AllocError>
-        ensures answer { IfOk result (Tells self.old.line (shown self.old.reader.sheet.now (line_at self.old.reader.frame self.old.reader.place self.old.reader.sheet.now))) }
+    // The text of the next line, or none at the end. At the end, and after a fault, it tells the same again.
+    pub fn next(&mut self, heap: Global) -> Result<Option<String>, ListError>
+        ensures answer { Tells self.old.line (shown self.old.reader.sheet.now (line_at self.old.reader.frame self.old.reader.place self.old.reader.sheet.now)) result }
         ensures count { self.new.line ≡ count_after self.old.line (shown self.old.reader.sheet.now (line_at self.old.reader.frame self.old.reader.place self.old.reader.sheet.now)) }
         ensures place { self.new.reader.place ≡ place_after self.old.reader.place (line_at self.old.reader.frame self.old.reader.place self.old.reader.sheet.now) }
         ensures same { self.new.reader.sheet.now ≡ self.old.reader.sheet.now }
     {
         let line = self.line;
         match self.reader.next_line() {
-            Err(fault) => Ok(Told::End(Answer::ReadRefused {
-                number: fault.number(),
-                line,
-                byte: fault.byte,
-            })),
-            Ok(next) => match next {
-                None => Ok(Told::End(Answer::Count { lines: line })),
-                Some(placed) => {
-                    self.line = line + 1;
-                    Ok(Told::Line(text_of(heap, line, placed)?))
-                }
-            },
+            Ok(Some(placed)) => {
+                self.line = line + 1;
+                Ok(Some(text_of(heap, line, placed)?))
+            }
+            Ok(None) => Ok(None),
+            Err(fault) => Err(ListError::Unreadable { line, fault }),
         }
     }
 }

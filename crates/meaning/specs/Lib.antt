@@ -1,2 +1,3 @@
+pub mod Kinds
 pub mod Decoding
 pub mod Directions

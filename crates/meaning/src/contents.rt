@@ -2,6 +2,8 @@
 ghost use Rattle.std.specs.Prelude.{◌≡◌};
 ghost use Rattle.meaning.specs.Decoding.{content_of};
 
+use super::kinds::ContentKind;
+
 #[derive(Clone, Copy, Debug, PartialEq, Eq)]
 pub enum Content {
     // The deeper lines that follow, perhaps none; in a change, the empty tree.
@@ -19,13 +21,13 @@ impl Content {
     pub fn decode(kind: u32, first: u32, second: u32) -> Option<Content>
         ensures answer { result ≡ content_of kind first second }
     {
-        match (kind, first, second) {
-            (0, 0, 0) => Some(Content::Tree),
-            (1, number, 0) => Some(Content::Number(number)),
-            (2, job, 0) => Some(Content::Script { job }),
-            (3, path, location) => Some(Content::Pointer { path, location }),
-            (4, slot, 0) => Some(Content::Held { slot }),
-            (5, template, 0) => Some(Content::Template { template }),
+        match (ContentKind::try_from(kind).ok()?, first, second) {
+            (ContentKind::Tree, 0, 0) => Some(Content::Tree),
+            (ContentKind::Number, number, 0) => Some(Content::Number(number)),
+            (ContentKind::Script, job, 0) => Some(Content::Script { job }),
+            (ContentKind::Pointer, path, location) => Some(Content::Pointer { path, location }),
+            (ContentKind::Held, slot, 0) => Some(Content::Held { slot }),
+            (ContentKind::Template, template, 0) => Some(Content::Template { template }),
             _ => None,
         }
     }

@@ -24,8 +24,8 @@ impl Width {
         ensures answer { result ≡ limit_of self }
     {
         match self {
-            Width::Narrow => 0xffff_ffff,
-            Width::Wide => 0xffff_ffff_ffff_ffff,
+            Width::Narrow => u64::from(u32::MAX),
+            Width::Wide => u64::MAX,
         }
     }
 }

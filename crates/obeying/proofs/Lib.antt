@@ -1,3 +1,4 @@
 pub mod Copies
+pub mod Firsts
 pub mod Lines
 pub mod Parts

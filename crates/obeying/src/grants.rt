@@ -5,6 +5,7 @@ ghost use Rattle.scan.specs.Scan.{Each};
 ghost use Rattle.obeying.specs.Rules.{GrantObeys, FirstRow};
 ghost use Rattle.obeying.specs.Breaches.{grant_passes, grant_breach};
 
+use meaning::Direction;
 use order::Order;
 use rows::GrantRow;
 
@@ -12,7 +13,18 @@ fn grant_obeys<O: Order>(order: &O, grant: &GrantRow) -> bool
     ensures answer { result ≡ grant_passes (O.below order.now) O.TOP grant.now }
     ensures says { Decides result (GrantObeys (O.below order.now) O.TOP grant.now) }
 {
-    grant.direction != 1 || !order.at_or_below(O::TOP, grant.role)
+    match Direction::try_from(grant.direction) {
+        Ok(Direction::Disable) => !order.at_or_below(O::TOP, grant.role),
+        _ => true,
+    }
+}
+
+// The first grant that breaks its rule, in words.
+fn first_broken<O: Order>(order: &O, grants: &[GrantRow]) -> Option<usize>
+    ensures stands { result ≡ None → Each (GrantObeys (O.below order.now) O.TOP) grant0 grants.now }
+    ensures first { IfSome result (FirstRow (GrantObeys (O.below order.now) O.TOP) grant0 grants.now) }
+{
+    grants.iter().position(|grant| !grant_obeys(order, grant))
 }
 
 // The first grant that breaks its rule.
@@ -22,10 +34,5 @@ pub fn grant_breach<O: Order>(order: &O, grants: &[GrantRow]) -> Option<usize>
     ensures told { Each (GrantObeys (O.below order.now) O.TOP) grant0 grants.now → result ≡ None }
     ensures first { IfSome result (FirstRow (GrantObeys (O.below order.now) O.TOP) grant0 grants.now) }
 {
-    for i in 0..grants.len() {
-        if !grant_obeys(order, &grants[i]) {
-            return Some(i);
-        }
-    }
-    None
+    first_broken(order, grants)
 }

@@ -8,5 +8,5 @@ mod trees;
 
 pub use grants::grant_breach;
 pub use laws::trees_keep_their_laws;
-pub use matching::{TreePattern, tree_matches};
-pub use trees::{Breach, Rule, tree_breach};
+pub use matching::TreePattern;
+pub use trees::{Breach, Policy, Rule};

@@ -6,14 +6,13 @@ ghost use Rattle.scan.specs.Scan.{Each};
 ghost use Rattle.obeying.specs.Rules.{LineMatches, Matches};
 ghost use Rattle.obeying.specs.Breaches.{part_of, line_matches, lines_match, tree_matches};
 
-use super::trees::tree_breach;
+use super::trees::Policy;
 use order::{Order, RoleSet, set_below};
-use rows::{JobRow, TreeLine};
+use rows::TreeLine;
 
 // A tree at the policy, whose top edges have roles of `top` only, and each of whose sets is ≤ `all`.
-#[derive(Clone, Copy)]
-pub struct TreePattern {
-    pub policy: u32,
+pub struct TreePattern<'a, O> {
+    pub policy: Policy<'a, O>,
     pub top: RoleSet,
     pub all: RoleSet,
 }
@@ -33,38 +32,31 @@ fn outermost_matches(top: RoleSet, line: TreeLine) -> bool
     line.depth != 1 || part_of(line.set, top)
 }
 
-fn line_matches<O: Order>(order: &O, pattern: TreePattern, line: TreeLine) -> bool
-    ensures answer { result ≡ line_matches (O.below order.now) pattern.top pattern.all line }
-    ensures says { Decides result (LineMatches (O.below order.now) pattern.top pattern.all line) }
-{
-    outermost_matches(pattern.top, line) && set_below(order, line.set, pattern.all)
-}
-
-fn lines_match<O: Order>(order: &O, pattern: TreePattern, tree: &[TreeLine]) -> bool
-    ensures answer { result ≡ lines_match (O.below order.now) pattern.top pattern.all tree.now }
-    ensures says { Decides result (Each (LineMatches (O.below order.now) pattern.top pattern.all) line0 tree.now) }
-{
-    for i in 0..tree.len() {
-        if !line_matches(order, pattern, tree[i]) {
-            return false;
-        }
+impl<O: Order> TreePattern<'_, O> {
+    fn line_matches(&self, line: TreeLine) -> bool
+        ensures answer { result ≡ line_matches (O.below self.now.policy.order.now) self.now.top self.now.all line }
+        ensures says { Decides result (LineMatches (O.below self.now.policy.order.now) self.now.top self.now.all line) }
+    {
+        outermost_matches(self.top, line) && set_below(self.policy.order, line.set, self.all)
     }
-    true
-}
 
-// Whether the tree matches the pattern; `least` is the least set of the pattern's policy. Any lines may be asked about.
-pub fn tree_matches<O: Order>(
-    order: &O,
-    least: RoleSet,
-    jobs: &[JobRow],
-    pattern: TreePattern,
-    tree: &[TreeLine],
-) -> bool
-    ensures answer { result ≡ tree_matches (O.below order.now) least jobs.now pattern.policy pattern.top pattern.all tree.now }
-    ensures says { Decides result (Matches (O.below order.now) least jobs.now pattern.policy pattern.top pattern.all tree.now) }
-{
-    match tree_breach(order, least, pattern.policy, jobs, tree) {
-        Some(_) => false,
-        None => lines_match(order, pattern, tree),
+    fn lines_match(&self, tree: &[TreeLine]) -> bool
+        ensures answer { result ≡ lines_match (O.below self.now.policy.order.now) self.now.top self.now.all tree.now }
+        ensures says { Decides result (Each (LineMatches (O.below self.now.policy.order.now) self.now.top self.now.all) line0 tree.now) }
+    {
+        for line in tree {
+            if !self.line_matches(*line) {
+                return false;
+            }
+        }
+        true
+    }
+
+    // Whether the tree matches the pattern. Any lines may be asked about.
+    pub fn matches(&self, tree: &[TreeLine]) -> bool
+        ensures answer { result ≡ tree_matches (O.below self.now.policy.order.now) self.now.policy.least self.now.policy.jobs.now self.now.policy.number self.now.top self.now.all tree.now }
+        ensures says { Decides result (Matches (O.below self.now.policy.order.now) self.now.policy.least self.now.policy.jobs.now self.now.policy.number self.now.top self.now.all tree.now) }
+    {
+        self.policy.breach(tree).is_none() && self.lines_match(tree)
     }
 }

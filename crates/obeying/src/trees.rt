@@ -1,14 +1,16 @@
 // Trees: which sets may lie under which, and which scripts.
-ghost use Rattle.std.specs.Prelude.{◌≡◌, ℕ, ◌<◌, length, IfSome, None, Decides, MatchOption};
+ghost use Rattle.std.specs.Prelude.{◌≡◌, ℕ, ◌<◌, ◌&&◌, ◌==◌, nat_lt, slice_index_or, length, IfSome, None, Decides, MatchOption};
+ghost use Rattle.layout.specs.Zeros.{job0};
 ghost use Rattle.order.specs.RoleSets.{SetBelow};
 ghost use Rattle.obeying.specs.Rules.{line, Above, ScriptObeys, TreeObeys, Asks, number_of, LowestBroken, FirstBroken};
 ghost use Rattle.obeying.specs.Breaches.{edge_above, line_below, script_passes, line_breach, tree_breach};
 
+use meaning::ContentKind;
 use order::{Order, RoleSet, set_below};
 use rows::{JobRow, TreeLine};
 
 // The rules of trees, from the lowest to the highest.
-#[derive(Clone, Copy)]
+#[derive(Clone, Copy, Debug, PartialEq, Eq)]
 pub enum Rule {
     // The policy's least set is ≤ the edge's set.
     Least,
@@ -18,7 +20,7 @@ pub enum Rule {
     Script,
 }
 
-#[derive(Clone, Copy)]
+#[derive(Clone, Copy, Debug, PartialEq, Eq)]
 pub struct Breach {
     pub row: usize,
     pub rule: Rule,
@@ -37,6 +39,14 @@ impl Rule {
     }
 }
 
+// What a tree is held to: the order of roles, a policy by its number and its least set, and the jobs that scripts may name.
+pub struct Policy<'a, O> {
+    pub order: &'a O,
+    pub number: u32,
+    pub least: RoleSet,
+    pub jobs: &'a [JobRow],
+}
+
 // The edge above the line of this row: the nearest line before it whose depth is one less.
 fn edge_above(tree: &[TreeLine], row: usize) -> Option<usize>
     requires { row < length tree.now }
@@ -52,71 +62,68 @@ fn edge_above(tree: &[TreeLine], row: usize) -> Option<usize>
     None
 }
 
-fn above_obeys<O: Order>(order: &O, tree: &[TreeLine], row: usize) -> bool
-    requires { row < length tree.now }
-    ensures answer { result ≡ line_below (O.below order.now) tree.now (edge_above tree.now row) (line tree.now row).set }
-    ensures says { Decides result ((j : ℕ) → Above tree.now j row → SetBelow (O.below order.now) (line tree.now j).set (line tree.now row).set) }
-{
-    match edge_above(tree, row) {
-        Some(j) => set_below(order, tree[j].set, tree[row].set),
-        None => true,
-    }
-}
-
-fn script_obeys(jobs: &[JobRow], policy: u32, line: TreeLine) -> bool
-    ensures answer { result ≡ script_passes jobs.now policy line }
-    ensures says { Decides result (ScriptObeys jobs.now policy line) }
-{
-    if line.content != 2 {
-        return true;
-    }
-    let job = line.first as usize;
-    job < jobs.len() && jobs[job].policy == policy
-}
-
-// The lowest rule that the line of this row breaks.
-fn line_breach<O: Order>(
-    order: &O,
-    least: RoleSet,
-    policy: u32,
-    jobs: &[JobRow],
-    tree: &[TreeLine],
-    row: usize,
-) -> Option<Rule>
-    requires { row < length tree.now }
-    ensures answer { result ≡ line_breach (O.below order.now) least jobs.now policy tree.now row }
-    ensures says { LowestBroken (Asks (O.below order.now) least jobs.now policy tree.now row) result }
-{
-    if !set_below(order, least, tree[row].set) {
-        return Some(Rule::Least);
-    }
-    if !above_obeys(order, tree, row) {
-        return Some(Rule::Above);
-    }
-    if !script_obeys(jobs, policy, tree[row]) {
-        return Some(Rule::Script);
-    }
-    None
-}
-
-// The first line that breaks a rule, and the lowest rule that it breaks. Any lines may be asked about: a script that names no
-// job breaks its rule, and lines that are no tree are held to the same words.
-pub fn tree_breach<O: Order>(
-    order: &O,
-    least: RoleSet,
-    policy: u32,
-    jobs: &[JobRow],
-    tree: &[TreeLine],
-) -> Option<Breach>
-    ensures answer { result ≡ tree_breach (O.below order.now) least jobs.now policy tree.now }
-    ensures stands { result ≡ None → TreeObeys (O.below order.now) least jobs.now policy tree.now }
-    ensures told { TreeObeys (O.below order.now) least jobs.now policy tree.now → result ≡ None }
-    ensures first { IfSome result (FirstBroken (Asks (O.below order.now) least jobs.now policy tree.now) (length tree.now)) }
-{
-    for i in 0..tree.len() {
-        if let Some(rule) = line_breach(order, least, policy, jobs, tree, i) {
-            return Some(Breach { row: i, rule });
+impl<O: Order> Policy<'_, O> {
+    fn above_obeys(&self, tree: &[TreeLine], row: usize) -> bool
+        requires { row < length tree.now }
+        ensures answer { result ≡ line_below (O.below self.now.order.now) tree.now (edge_above tree.now row) (line tree.now row).set }
+        ensures says { Decides result ((j : ℕ) → Above tree.now j row → SetBelow (O.below self.now.order.now) (line tree.now j).set (line tree.now row).set) }
+    {
+        match edge_above(tree, row) {
+            Some(j) => set_below(self.order, tree[j].set, tree[row].set),
+            None => true,
         }
     }
-    None
+
+    // Whether the job is there, and of the policy.
+    fn has_job(&self, job: usize) -> bool
+        ensures answer { result ≡ (nat_lt job (length self.now.jobs.now) && (slice_index_or self.now.jobs.now job job0).policy == self.now.number) }
+    {
+        match self.jobs.get(job) {
+            Some(job) => job.policy == self.number,
+            None => false,
+        }
+    }
+
+    fn script_obeys(&self, line: TreeLine) -> bool
+        ensures answer { result ≡ script_passes self.now.jobs.now self.now.number line }
+        ensures says { Decides result (ScriptObeys self.now.jobs.now self.now.number line) }
+    {
+        match ContentKind::try_from(line.content) {
+            Ok(ContentKind::Script) => self.has_job(line.first as usize),
+            _ => true,
+        }
+    }
+
+    // The lowest rule that the line of this row breaks.
+    fn line_breach(&self, tree: &[TreeLine], row: usize) -> Option<Rule>
+        requires { row < length tree.now }
+        ensures answer { result ≡ line_breach (O.below self.now.order.now) self.now.least self.now.jobs.now self.now.number tree.now row }
+        ensures says { LowestBroken (Asks (O.below self.now.order.now) self.now.least self.now.jobs.now self.now.number tree.now row) result }
+    {
+        if !set_below(self.order, self.least, tree[row].set) {
+            Some(Rule::Least)
+        } else if !self.above_obeys(tree, row) {
+            Some(Rule::Above)
+        } else if !self.script_obeys(tree[row]) {
+            Some(Rule::Script)
+        } else {
+            None
+        }
+    }
+
+    // The first line that breaks a rule, and the lowest rule that it breaks. Any lines may be asked about: a script that names
+    // no job breaks its rule, and lines that are no tree are held to the same words.
+    pub fn breach(&self, tree: &[TreeLine]) -> Option<Breach>
+        ensures answer { result ≡ tree_breach (O.below self.now.order.now) self.now.least self.now.jobs.now self.now.number tree.now }
+        ensures stands { result ≡ None → TreeObeys (O.below self.now.order.now) self.now.least self.now.jobs.now self.now.number tree.now }
+        ensures told { TreeObeys (O.below self.now.order.now) self.now.least self.now.jobs.now self.now.number tree.now → result ≡ None }
+        ensures first { IfSome result (FirstBroken (Asks (O.below self.now.order.now) self.now.least self.now.jobs.now self.now.number tree.now) (length tree.now)) }
+    {
+        for row in 0..tree.len() {
+            if let Some(rule) = self.line_breach(tree, row) {
+                return Some(Breach { row, rule });
+            }
+        }
+        None
+    }
 }

@@ -8,10 +8,6 @@ use Rattle.places.specs.declared.finding.Place.{Place}
 abbrev pub edges_in : Table TreeLine 128 → ℕ
 edges_in tree = min tree.count 128
 
--- The edge with this number among those of the location `l`, if it is in use.
-abbrev pub own_edge : ℕ → Table TreeLine 128 → ℕ → Option Place
-own_edge l tree row = cond (nat_lt row (edges_in tree)) (Some (record { location = l; edge = row })) None
-
 -- Where the edge with this number stands among these trees, of which the first is that of the location `l`.
 abbrev pub edge_place : ℕ → ℕ → List (Table TreeLine 128) → Option Place
 edge_place l row [] = None

@@ -1,7 +1,9 @@
 // One number of a row is written over.
+#![tactic(auto, unfolding(crate::specs::Cells::narrowed))]
+
 ghost use Rattle.std.specs.Prelude.{◌≡◌, ℕ, Result};
 ghost use Rattle.poke.specs.declared.wrong.Wrong.{Wrong};
-ghost use Rattle.poke.specs.Cells.{narrowed, policy_with, grant_with, location_with, step_with, line_with, template_with, pattern_with, command_with, job_with, slot_with, slots_with, running_with};
+ghost use Rattle.poke.specs.Cells.{policy_with, grant_with, location_with, step_with, line_with, template_with, pattern_with, command_with, job_with, slot_with, slots_with, running_with};
 
 use super::wrong::Wrong;
 use layout::{RunningRow, Slot};
@@ -10,22 +12,12 @@ use rows::{
     TreeLine,
 };
 
-// A row whose numbers are counted from 0.
+// A row whose numbers are counted from 0, and can be written over one by one.
 pub(crate) trait Cells: Copy {
     ghost written: { Self → ℕ → ℕ → Result Self Wrong };
 
     fn with_field(self, field: u32, value: u64) -> Result<Self, Wrong>
         ensures answer { result ≡ written self field value };
-}
-
-pub(crate) fn narrow(value: u64) -> Result<u32, Wrong>
-    ensures answer { result ≡ narrowed value }
-{
-    if value <= 4294967295 {
-        Ok(value as u32)
-    } else {
-        Err(Wrong::Value)
-    }
 }
 
 impl Cells for PolicyRow {
@@ -45,11 +37,11 @@ impl Cells for GrantRow {
     fn with_field(self, field: u32, value: u64) -> Result<GrantRow, Wrong> {
         match field {
             0 => Ok(GrantRow {
-                policy: narrow(value)?,
+                policy: u32::try_from(value)?,
                 ..self
             }),
             1 => Ok(GrantRow {
-                direction: narrow(value)?,
+                direction: u32::try_from(value)?,
                 ..self
             }),
             2 => Ok(GrantRow {
@@ -57,7 +49,7 @@ impl Cells for GrantRow {
                 ..self
             }),
             3 => Ok(GrantRow {
-                role: narrow(value)?,
+                role: u32::try_from(value)?,
                 ..self
             }),
             _ => Err(Wrong::Field),
@@ -71,7 +63,7 @@ impl Cells for LocationRow {
     fn with_field(self, field: u32, value: u64) -> Result<LocationRow, Wrong> {
         match field {
             0 => Ok(LocationRow {
-                policy: narrow(value)?,
+                policy: u32::try_from(value)?,
             }),
             _ => Err(Wrong::Field),
         }
@@ -84,11 +76,11 @@ impl Cells for PathStepRow {
     fn with_field(self, field: u32, value: u64) -> Result<PathStepRow, Wrong> {
         match field {
             0 => Ok(PathStepRow {
-                path: narrow(value)?,
+                path: u32::try_from(value)?,
                 ..self
             }),
             1 => Ok(PathStepRow {
-                label: narrow(value)?,
+                label: u32::try_from(value)?,
                 ..self
             }),
             2 => Ok(PathStepRow { set: value, ..self }),
@@ -103,24 +95,24 @@ impl Cells for TreeLine {
     fn with_field(self, field: u32, value: u64) -> Result<TreeLine, Wrong> {
         match field {
             0 => Ok(TreeLine {
-                depth: narrow(value)?,
+                depth: u32::try_from(value)?,
                 ..self
             }),
             1 => Ok(TreeLine {
-                label: narrow(value)?,
+                label: u32::try_from(value)?,
                 ..self
             }),
             2 => Ok(TreeLine { set: value, ..self }),
             3 => Ok(TreeLine {
-                content: narrow(value)?,
+                content: u32::try_from(value)?,
                 ..self
             }),
             4 => Ok(TreeLine {
-                first: narrow(value)?,
+                first: u32::try_from(value)?,
                 ..self
             }),
             5 => Ok(TreeLine {
-                second: narrow(value)?,
+                second: u32::try_from(value)?,
                 ..self
             }),
             _ => Err(Wrong::Field),
@@ -133,7 +125,7 @@ impl Cells for TemplateRow {
 
     fn with_field(self, field: u32, value: u64) -> Result<TemplateRow, Wrong> {
         if field == 0 {
-            let template = narrow(value)?;
+            let template = u32::try_from(value)?;
             return Ok(TemplateRow { template, ..self });
         }
         let line = self.line.with_field(field - 1, value)?;
@@ -147,15 +139,15 @@ impl Cells for PatternRow {
     fn with_field(self, field: u32, value: u64) -> Result<PatternRow, Wrong> {
         match field {
             0 => Ok(PatternRow {
-                kind: narrow(value)?,
+                kind: u32::try_from(value)?,
                 ..self
             }),
             1 => Ok(PatternRow {
-                slot: narrow(value)?,
+                slot: u32::try_from(value)?,
                 ..self
             }),
             2 => Ok(PatternRow {
-                policy: narrow(value)?,
+                policy: u32::try_from(value)?,
                 ..self
             }),
             3 => Ok(PatternRow {
@@ -177,19 +169,19 @@ impl Cells for CommandRow {
     fn with_field(self, field: u32, value: u64) -> Result<CommandRow, Wrong> {
         match field {
             0 => Ok(CommandRow {
-                verb: narrow(value)?,
+                verb: u32::try_from(value)?,
                 ..self
             }),
             1 => Ok(CommandRow {
-                next: narrow(value)?,
+                next: u32::try_from(value)?,
                 ..self
             }),
             2 => Ok(CommandRow {
-                operand_kind: narrow(value)?,
+                operand_kind: u32::try_from(value)?,
                 ..self
             }),
             3 => Ok(CommandRow {
-                operand: narrow(value)?,
+                operand: u32::try_from(value)?,
                 ..self
             }),
             4 => Ok(CommandRow {
@@ -197,15 +189,15 @@ impl Cells for CommandRow {
                 ..self
             }),
             5 => Ok(CommandRow {
-                second: narrow(value)?,
+                second: u32::try_from(value)?,
                 ..self
             }),
             6 => Ok(CommandRow {
-                third: narrow(value)?,
+                third: u32::try_from(value)?,
                 ..self
             }),
             7 => Ok(CommandRow {
-                fourth: narrow(value)?,
+                fourth: u32::try_from(value)?,
                 ..self
             }),
             _ => Err(Wrong::Field),
@@ -219,7 +211,7 @@ impl Cells for JobRow {
     fn with_field(self, field: u32, value: u64) -> Result<JobRow, Wrong> {
         match field {
             0 => Ok(JobRow {
-                policy: narrow(value)?,
+                policy: u32::try_from(value)?,
                 ..self
             }),
             1 => Ok(JobRow {
@@ -227,7 +219,7 @@ impl Cells for JobRow {
                 ..self
             }),
             2 => Ok(JobRow {
-                command: narrow(value)?,
+                command: u32::try_from(value)?,
                 ..self
             }),
             _ => Err(Wrong::Field),
@@ -238,20 +230,21 @@ impl Cells for JobRow {
 fn slot_with(slot: Slot, part: u32, value: u64) -> Result<Slot, Wrong>
     ensures answer { result ≡ slot_with slot part value }
 {
-    if part == 0 {
-        let pattern = narrow(value)?;
-        return Ok(Slot { pattern, ..slot });
+    let value = u32::try_from(value)?;
+    match part {
+        0 => Ok(Slot {
+            pattern: value,
+            ..slot
+        }),
+        _ => Ok(Slot { value, ..slot }),
     }
-    let value = narrow(value)?;
-    Ok(Slot { value, ..slot })
 }
 
-fn slots_with(slots: [Slot; 6], part: u32, value: u64) -> Result<[Slot; 6], Wrong>
+fn slots_with(mut slots: [Slot; 6], part: u32, value: u64) -> Result<[Slot; 6], Wrong>
     ensures answer { result ≡ slots_with slots part value }
 {
-    let mut slots = slots;
     let at = (part / 2) as usize;
-    if at >= 6 {
+    if at >= slots.len() {
         return Err(Wrong::Field);
     }
     slots[at] = slot_with(slots[at], part % 2, value)?;
@@ -264,7 +257,7 @@ impl Cells for RunningRow {
     fn with_field(self, field: u32, value: u64) -> Result<RunningRow, Wrong> {
         match field {
             0 => Ok(RunningRow {
-                location: narrow(value)?,
+                location: u32::try_from(value)?,
                 ..self
             }),
             1 => Ok(RunningRow {
@@ -272,7 +265,7 @@ impl Cells for RunningRow {
                 ..self
             }),
             2 => Ok(RunningRow {
-                command: narrow(value)?,
+                command: u32::try_from(value)?,
                 ..self
             }),
             _ => {

@@ -1,79 +1,65 @@
 // One number of the edges is written over. Their rows are counted over all locations.
-ghost use Rattle.std.specs.Prelude.{◌≡◌, ◌<◌, ◌≤◌};
+ghost use Rattle.std.specs.Prelude.{◌≡◌, ◌<◌, ◌≤◌, OnErr};
 ghost use Rattle.poke.specs.Placing.{with_trees};
-ghost use Rattle.poke.specs.Poking.{told, after, behind, last_of, edge_place_in, edge_count_with, edges_with};
+ghost use Rattle.poke.specs.Poking.{told, after, behind, edge_place_in, edge_count_with, edges_with};
 
-use super::table::{COUNT, poke_table};
+use super::poking::{Poke, Row};
+use super::table::poke_table;
 use super::wrong::Wrong;
 use layout::{Table, Tables};
 use places::{Place, edge_place, edges_in};
 use rows::TreeLine;
 
+// The number of a row that stands behind all rows of these trees, counted from there.
 fn behind(trees: &[Table<TreeLine, 128>], row: usize) -> usize
     ensures answer { result ≡ behind row trees.now }
     ensures within { result ≤ row }
 {
-    let mut left = row;
-    for tree in trees {
-        left = left.saturating_sub(edges_in(tree));
-    }
-    left
+    trees
+        .iter()
+        .fold(row, |left, tree| left.saturating_sub(edges_in(tree)))
 }
 
-fn last_of(count: usize) -> usize
-    ensures answer { result ≡ last_of count }
-    ensures within { result < 16 }
-{
-    if count == 0 {
-        0
-    } else if count < 16 {
-        count - 1
-    } else {
-        15
-    }
-}
-
+// A row behind all that are in use is one of the last location.
 fn place_of(tables: &Tables, row: usize) -> Place
     ensures answer { result ≡ edge_place_in tables.now row }
     ensures location { result.location < 16 }
     ensures within { result.edge ≤ row }
 {
-    match edge_place(&tables.trees, row) {
-        Some(place) => place,
-        None => {
-            let location = last_of(tables.locations.count);
-            Place {
-                location,
-                edge: behind(&tables.trees[0..location], row),
-            }
+    edge_place(&tables.trees, row).unwrap_or_else(|| {
+        let location = tables.locations.in_use().len().saturating_sub(1);
+        Place {
+            location,
+            edge: behind(&tables.trees[..location], row),
         }
-    }
+    })
 }
 
-fn poke_edge_count(tables: &mut Tables, field: u32, value: u64) -> Result<(), Wrong>
-    ensures answer { result ≡ told (edge_count_with tables.old.trees field value) }
-    ensures after { tables.new ≡ with_trees tables.old (after tables.old.trees (edge_count_with tables.old.trees field value)) }
+// The number of edges of the location that the field names.
+fn poke_edge_count(tables: &mut Tables, poke: Poke) -> Result<(), Wrong>
+    ensures answer { result ≡ told (edge_count_with tables.old.trees poke.field poke.value) }
+    ensures after { tables.new ≡ with_trees tables.old (after tables.old.trees (edge_count_with tables.old.trees poke.field poke.value)) }
+    ensures same { OnErr result (tables.new ≡ tables.old) }
 {
-    let at = field as usize;
-    if at >= 16 {
+    let at = poke.field as usize;
+    if at >= tables.trees.len() {
         return Err(Wrong::Field);
     }
-    tables.trees[at].count = value as usize;
+    tables.trees[at].count = poke.value as usize;
     Ok(())
 }
 
-pub(crate) fn poke_edges(tables: &mut Tables, row: u32, field: u32, value: u64) -> Result<(), Wrong>
-    ensures answer { result ≡ told (edges_with tables.old row field value) }
-    ensures after { tables.new ≡ with_trees tables.old (after tables.old.trees (edges_with tables.old row field value)) }
+pub(crate) fn poke_edges(tables: &mut Tables, poke: Poke) -> Result<(), Wrong>
+    ensures answer { result ≡ told (edges_with tables.old poke.row poke.field poke.value) }
+    ensures after { tables.new ≡ with_trees tables.old (after tables.old.trees (edges_with tables.old poke.row poke.field poke.value)) }
+    ensures same { OnErr result (tables.new ≡ tables.old) }
 {
-    if row == COUNT {
-        return poke_edge_count(tables, field, value);
+    match Row::from(poke.row) {
+        Row::Count => poke_edge_count(tables, poke),
+        Row::At(at) => {
+            let place = place_of(tables, at);
+            let row = place.edge as u32;
+            poke_table(&mut tables.trees[place.location], Poke { row, ..poke })
+        }
     }
-    let place = place_of(tables, row as usize);
-    poke_table(
-        &mut tables.trees[place.location],
-        place.edge as u32,
-        field,
-        value,
-    )
 }

@@ -3,10 +3,12 @@
 
 mod cells;
 mod edges;
+mod poking;
 mod shelved;
 mod table;
 mod writing;
 mod wrong;
 
+pub use poking::Poke;
 pub use writing::poke;
 pub use wrong::Wrong;

@@ -1,34 +1,30 @@
 // One number of a table is written over.
-ghost use Rattle.std.specs.Prelude.{◌≡◌};
+ghost use Rattle.std.specs.Prelude.{◌≡◌, OnErr};
 ghost use Rattle.poke.specs.Poking.{told, after, table_with};
 
 use super::cells::Cells;
+use super::poking::{Poke, Row};
 use super::wrong::Wrong;
 use layout::Table;
 
-// The row that stands for the number of rows in use.
-pub(crate) const COUNT: u32 = 4294967295;
-
 pub(crate) fn poke_table<R: Cells, const N: usize>(
     table: &mut Table<R, N>,
-    row: u32,
-    field: u32,
-    value: u64,
+    poke: Poke,
 ) -> Result<(), Wrong>
-    ensures answer { result ≡ told (table_with R.written table.old row field value) }
-    ensures after { table.new ≡ after table.old (table_with R.written table.old row field value) }
+    ensures answer { result ≡ told (table_with R.written table.old poke.row poke.field poke.value) }
+    ensures after { table.new ≡ after table.old (table_with R.written table.old poke.row poke.field poke.value) }
+    ensures same { OnErr result (table.new ≡ table.old) }
 {
-    if row == COUNT {
-        if field != 0 {
-            return Err(Wrong::Field);
+    match Row::from(poke.row) {
+        Row::Count if poke.field == 0 => {
+            table.count = poke.value as usize;
+            Ok(())
         }
-        table.count = value as usize;
-        return Ok(());
+        Row::Count => Err(Wrong::Field),
+        Row::At(at) if at < N => {
+            table.rows[at] = table.rows[at].with_field(poke.field, poke.value)?;
+            Ok(())
+        }
+        Row::At(_) => Err(Wrong::Row),
     }
-    let at = row as usize;
-    if at >= N {
-        return Err(Wrong::Row);
-    }
-    table.rows[at] = table.rows[at].with_field(field, value)?;
-    Ok(())
 }

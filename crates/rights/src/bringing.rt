@@ -1,5 +1,5 @@
 // Role a is at or below role b when all that a's rights bring is among what b's bring.
-ghost use Rattle.std.specs.Prelude.{◌≡◌, ◌<◌};
+ghost use Rattle.std.specs.Prelude.{◌≡◌, ◌==◌, bit_and};
 ghost use Rattle.rights.specs.Bringing.{brought, rights_below, TestSaysAmong};
 ghost use Rattle.rights.specs.Orders.{rights_lawful};
 ghost use Rattle.std.proofs.Common.{lit<, lit≤};
@@ -12,7 +12,7 @@ type RightSet = RoleSet;
 // Row i is the set of rights that right i brings.
 const TABLE: [RightSet; 6] = [1, 3, 5, 11, 21, 33];
 
-#[derive(Clone, Copy)]
+#[derive(Clone, Copy, Debug, PartialEq, Eq)]
 pub struct Rights;
 
 // All that the rights of the code bring.
@@ -21,20 +21,18 @@ fn brought_by(code: Role) -> RightSet
 {
     let mut all = 0;
     for (right, row) in TABLE.iter().enumerate() {
-        if has_role(code as RightSet, right as u32) {
+        if has_role(RightSet::from(code), right as Role) {
             all |= *row;
         }
     }
     all
 }
 
-// Whether all that a's rights bring is among what b's bring.
-fn among(a: Role, b: Role) -> bool
-    requires { (a < 64) × (b < 64) }
-    ensures answer { result ≡ rights_below a b }
+// Whether all of these rights are among the others.
+fn is_among(rights: RightSet, others: RightSet) -> bool
+    ensures answer { result ≡ (bit_and rights others == rights) }
 {
-    let mine = brought_by(a);
-    mine & brought_by(b) == mine
+    rights & others == rights
 }
 
 impl Order for Rights {
@@ -62,8 +60,9 @@ impl Order for Rights {
 
     ghost lawful = { λ s. rights_lawful };
 
+    #[tactic(auto, unfolding(crate::specs::Bringing::rights_below))]
     fn at_or_below(&self, a: Role, b: Role) -> bool {
-        if a < 64 && b < 64 { among(a, b) } else { false }
+        a < Self::COUNT && b < Self::COUNT && is_among(brought_by(a), brought_by(b))
     }
 }
 

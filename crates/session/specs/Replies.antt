@@ -1,5 +1,5 @@
 -- What a line of input calls for, and which order is in force after it.
-use Rattle.std.specs.Prelude.{◌≡◌, ℕ, Bool, true, false, ◌⊎◌, List, [], vec_items}
+use Rattle.std.specs.Prelude.{◌≡◌, ℕ, Bool, true, false, ◌⊎◌, List, [], Some, None, Option, vec_items}
 use Rattle.order.specs.RoleSets.{set_below, opens_to}
 use Rattle.drawn.specs.Draws.{Least, FirstUnknown}
 use Rattle.drawn.specs.Rows.{rows_below}
@@ -44,19 +44,17 @@ yes_no false = answer.No
 abbrev pub Draws : Standing → List (ℕ × ℕ) → Answer → Standing → Type 0
 Draws (standing.Drawn o) pairs told after =
     ((told ≡ answer.Ok) × DrawnFrom pairs after)
-    ⊎ ((k : ℕ) × FirstUnknown pairs k × (told ≡ answer.PairRefused 12 k) × (after ≡ standing.Drawn o))
-Draws (standing.Rights o) pairs told after = (told ≡ answer.NotDrawn 12) × (after ≡ standing.Rights o)
+    ⊎ ((k : ℕ) × FirstUnknown pairs k × (told ≡ answer.PairRefused (record { pair = k })) × (after ≡ standing.Drawn o))
+Draws (standing.Rights o) pairs told after = (told ≡ answer.NotDrawn) × (after ≡ standing.Rights o)
 
 -- these bytes are to be listed
 abbrev pub Lists : List ℕ → Reply → Type 0
-Lists bytes reply.Nothing = ⊥
 Lists bytes (reply.Answered told) = ⊥
 Lists bytes (reply.List sheet) = vec_items sheet ≡ bytes
 Lists bytes (reply.ListFile name) = ⊥
 
 -- the file of this name is to be listed
 abbrev pub ListsFile : List ℕ → Reply → Type 0
-ListsFile bytes reply.Nothing = ⊥
 ListsFile bytes (reply.Answered told) = ⊥
 ListsFile bytes (reply.List sheet) = ⊥
 ListsFile bytes (reply.ListFile name) = vec_items name ≡ bytes
@@ -72,7 +70,8 @@ Answers before (list_hex bytes) r after = Lists bytes r × (after ≡ before)
 Answers before (list_file name) r after = ListsFile name r × (after ≡ before)
 
 -- what a line calls for: nothing where it is passed over
-abbrev pub Replies : Standing → Said → Reply → Standing → Type 0
-Replies before passed r after = (r ≡ reply.Nothing) × (after ≡ before)
-Replies before (asks asked) r after = Answers before asked r after
-Replies before (unclear why) r after = (r ≡ reply.Answered (answer.Unclear why)) × (after ≡ before)
+abbrev pub Replies : Standing → Said → Option Reply → Standing → Type 0
+Replies before passed r after = (r ≡ None) × (after ≡ before)
+Replies before (asks asked) None after = ⊥
+Replies before (asks asked) (Some r) after = Answers before asked r after
+Replies before (unclear why) r after = (r ≡ Some (reply.Answered (answer.Unclear why))) × (after ≡ before)

@@ -10,7 +10,7 @@ use drawn::Drawn;
 use order::{Order, Role, RoleSet, opens, set_below};
 use rights::Rights;
 use std::alloc::{AllocError, Global};
-use words::{Command, Line, OrderKind, read_line};
+use words::{Command, LineError, OrderKind, read_line};
 
 fn yes_no(holds: bool) -> Answer
     ensures answer { result ≡ yes_no holds }
@@ -31,18 +31,12 @@ impl Standing {
     fn draw(&mut self, pairs: &[(Role, Role)]) -> Answer
         ensures answer { Draws self.old pairs.now result self.new }
     {
-        match *self {
-            Standing::Drawn(mut order) => match order.draw(pairs) {
-                Ok(()) => {
-                    *self = Standing::Drawn(order);
-                    Answer::Ok
-                }
-                Err(fault) => Answer::PairRefused {
-                    number: fault.number(),
-                    pair: fault.pair,
-                },
+        match self {
+            Standing::Drawn(order) => match order.draw(pairs) {
+                Ok(()) => Answer::Ok,
+                Err(fault) => Answer::PairRefused(fault),
             },
-            Standing::Rights(_) => Answer::NotDrawn { number: 12 },
+            Standing::Rights(_) => Answer::NotDrawn,
         }
     }
 
@@ -101,14 +95,17 @@ impl Session {
         }
     }
 
-    // What one line of input calls for.
-    pub fn reply(&mut self, heap: Global, line: &[u8]) -> Result<Reply, AllocError>
+    // What one line of input calls for, unless it is passed over.
+    pub fn reply(&mut self, heap: Global, line: &[u8]) -> Result<Option<Reply>, AllocError>
         ensures answer { IfOk result (λ reply. Replies self.old.order (said line.now) reply self.new.order) }
     {
-        match read_line(heap, line)? {
-            Line::Passed => Ok(Reply::Nothing),
-            Line::Asks(command) => Ok(self.answer(command)),
-            Line::Unclear(unclear) => Ok(Reply::Answered(Answer::Unclear(unclear))),
+        match read_line(heap, line) {
+            Ok(None) => Ok(None),
+            Ok(Some(command)) => Ok(Some(self.answer(command))),
+            Err(LineError::Unclear(unclear)) => {
+                Ok(Some(Reply::Answered(Answer::Unclear(unclear))))
+            }
+            Err(LineError::OutOfMemory) => Err(AllocError),
         }
     }
 }

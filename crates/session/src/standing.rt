@@ -18,8 +18,6 @@ pub struct Session {
 // What a line of input calls for.
 #[derive(Drop)]
 pub enum Reply {
-    // The line is passed over.
-    Nothing,
     Answered(Answer),
     // This sheet is to be listed.
     List(Vec<u8>),

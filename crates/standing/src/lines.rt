@@ -6,7 +6,7 @@ ghost use Rattle.standing.specs.declared.lines.Home.TheVariants.{Tree};
 ghost use Rattle.standing.specs.Tests.{root, follows, content_stands, belongs, content_passes, line_passes, line_after, no_lines, template_passes, lines_after};
 
 use super::sizes::Sizes;
-use meaning::Content;
+use meaning::{Content, ContentKind};
 use order::{has_role, in_use_of};
 use rows::{TemplateRow, TreeLine};
 use scan::Judged;
@@ -95,7 +95,7 @@ fn line_after(line: TreeLine) -> LineBefore
 {
     LineBefore {
         depth: line.depth,
-        branch: line.content == 0,
+        branch: ContentKind::try_from(line.content) == Ok(ContentKind::Tree),
     }
 }
 
@@ -149,9 +149,8 @@ impl Judged<Sizes> for TemplateRow {
     }
 
     fn note(&self, before: &mut LinesBefore) {
-        let template = self.template;
         *before = LinesBefore {
-            templates: template as usize + 1,
+            templates: self.template as usize + 1,
             line: line_after(self.line),
         };
     }

@@ -36,14 +36,13 @@ fn part_stands(sizes: &Sizes, pattern: Pattern, slot: usize, value: u32) -> bool
 fn slot_passes(sizes: &Sizes, patterns: &[PatternRow; 64], slot: usize, held: Slot) -> bool
     ensures answer { result ≡ slot_passes sizes.now patterns.now slot held }
 {
-    let filled = held.pattern as usize;
-    if filled == 0 {
+    let Some((row, value)) = held.filling() else {
         return held.value == 0;
-    }
-    filled <= sizes.patterns
-        && filled <= 64
-        && Pattern::decode(patterns[filled - 1]).is_some_and(|pattern| part_stands(
-            sizes, pattern, slot, held.value,
+    };
+    row < sizes.patterns
+        && row < 64
+        && Pattern::decode(patterns[row]).is_some_and(|pattern| part_stands(
+            sizes, pattern, slot, value,
         ))
 }
 

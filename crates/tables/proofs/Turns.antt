@@ -16,10 +16,11 @@ use Rattle.filing.specs.declared.decoded.Row.{Row}
 use Rattle.filing.specs.declared.placing.Before.{Before}
 use Rattle.filing.specs.declared.placing.Misplaced.{Misplaced}
 use Rattle.filing.specs.Rows.{row_of}
-use Rattle.filing.specs.Filing.{none_before, placed, filed, network_after}
+use Rattle.filing.specs.Filing.{none_before, before_after, placed, filed, network_after}
+use Rattle.filing.proofs.Puts.{holds_own}
 use Rattle.tables.specs.declared.fault.LoadFault.{LoadFault}
 use Rattle.tables.specs.declared.fault.LoadFault.TheVariants.{Unreadable}
-use Rattle.tables.specs.Loading.{EndsAs, ReadsFrom, Reads, row_at, line_filed, and_then, loaded, sheet_loaded, Filed}
+use Rattle.tables.specs.Loading.{EndsAs, ReadsFrom, Reads, row_at, line_filed, line_told, and_then, loaded, sheet_loaded, Filed}
 use Rattle.tables.proofs.Readings.{line-here, err_line, none_line, some-line, at_length, not_both_ends, not_none_and_line, not_fault_and_line, one_line, one_fault, no_line_at_end}
 
 -- of the lines of the sheet these are left, and filing them is what is left of filing all
@@ -63,14 +64,17 @@ fits_empty = record {
   shelved = omega arith;
 }
 
--- tables that hold a network hold the one that is read off them
-pub holds_own : (t : Tables) (n : Network) → Holds t n → Holds t (network t)
-holds_own t n h = subst (λ (m : Network). Holds t m) (sym (holds_network t n h)) h
+-- blank tables hold the empty network
+holds_empty : (t : Tables) → t ≡ stored empty → Holds t empty
+holds_empty t e = record { whole = e; fits = fits_empty }
+
+pub blank_holds : (t : Tables) → t ≡ stored empty → Holds t (network t)
+blank_holds t e = holds_own t empty (holds_empty t e)
 
 pub start : (sheet held : List ℕ) (place : ℕ) (frame : Frame) (t : Tables) → held ≡ sheet → place ≡ 0 → frame ≡ record { end = length sheet; last_kind = None }
     → t ≡ stored empty → Sofar sheet held 0 place none_before frame t
 start sheet held place frame t same zero-place f e =
-    let h : Holds t empty = record { whole = e; fits = fits_empty } in
+    let h = holds_empty t e in
     record {
       sheet_same = same;
       whole = ap (λ (x : Frame). x.end) f;
@@ -95,7 +99,7 @@ at-fault sheet line place count before n t f [] stop (Some g) r h e =
     ap (λ (x : ReadFault). Err (Unreadable line x)) (one_fault f g (read_line place sheet) r (ap (λ (p : ℕ). read_line p sheet) h ∙ e))
 at-fault sheet line place count before n t f (g ∷ left) stop end r h e = absurd (not_fault_and_line f g (read_line place sheet) r h.0)
 
-pub fault-told : (sheet held : List ℕ) (line place : ℕ) (before : Before) (frame : Frame) (t : Tables) (f : ReadFault) → Sofar sheet held line place before frame t
+fault-told : (sheet held : List ℕ) (line place : ℕ) (before : Before) (frame : Frame) (t : Tables) (f : ReadFault) → Sofar sheet held line place before frame t
     → Err f ≡ shown held (line_at frame place held) → (all : List Found) (end : Option ReadFault) → Reads sheet all end
     → Filed (Err (Unreadable line f)) t (length all) (sheet_loaded sheet all end)
 fault-told sheet held line place before frame t f s e all end reads =
@@ -104,14 +108,23 @@ fault-told sheet held line place before frame t f s e all end reads =
     subst (Filed (Err (Unreadable line f)) t (length all)) rest.same
     (at-fault sheet line place (length all) before (network t) t f rest.left rest.reads.stop end r rest.reads.handed rest.reads.ends)
 
--- a fault of the reader is told with the number of its line
-pub told_with : (line : ℕ) (r : Result (Option PlacedLine) ReadFault) (m : Result (Option PlacedLine) LoadFault) (g : LoadFault)
+-- the fault is told with the number of its line
+told_with : (line : ℕ) (r : Result (Option PlacedLine) ReadFault) (m : Result (Option PlacedLine) LoadFault) (g : LoadFault)
     → MatchResult r (λ x. m ≡ Ok x) (λ f. IsErrAnd m (λ h. h ≡ Unreadable line f)) → m ≡ Err g → (f : ReadFault) × (r ≡ Err f) × (g ≡ Unreadable line f)
 told_with line (Ok x) m g h e = absurd (let z : ◌≡◌ {A = ℕ} 0 1 = cc in omega arith)
 told_with line (Err f) m g h e =
     let t = err_from_is_err_and m h in
     let same : g ≡ t.0 = cc in
     (f, refl, same ∙ t.2)
+
+pub fault_filed : (sheet held : List ℕ) (line place : ℕ) (before : Before) (frame : Frame) (t : Tables) (r : Result (Option PlacedLine) ReadFault) (m : Result (Option PlacedLine) LoadFault) (g : LoadFault) (out : Result ℕ LoadFault)
+    → Sofar sheet held line place before frame t → MatchResult r (λ x. m ≡ Ok x) (λ f. IsErrAnd m (λ h. h ≡ Unreadable line f)) → m ≡ Err g
+    → seen r ≡ shown held (line_at frame place held) → out ≡ Err g → (all : List Found) (end : Option ReadFault) → Reads sheet all end
+    → Filed out t (length all) (sheet_loaded sheet all end)
+fault_filed sheet held line place before frame t r m g out s mapped was e o all end reads =
+    let told = told_with line r m g mapped was in
+    subst (λ (x : Result ℕ LoadFault). Filed x t (length all) (sheet_loaded sheet all end)) (sym (o ∙ ap Err told.2))
+    (fault-told sheet held line place before frame t told.0 s (sym (ap seen told.1) ∙ e) all end reads)
 
 -- ---- the end of the sheet
 
@@ -189,40 +202,44 @@ got sheet held line place before frame t next p s is e =
     }
 
 -- the line is refused
+fault_of : (r : Result Before LoadFault) (fault : LoadFault) → Err fault ≡ line_told r → r ≡ Err fault
+fault_of (Ok before) fault e = absurd (let z : ◌≡◌ {A = ℕ} 0 1 = cc in omega arith)
+fault_of (Err f) fault e = let same : f ≡ fault = cc in ap Err same
+
 pub line_refused : (sheet held : List ℕ) (line place : ℕ) (before : Before) (frame : Frame) (t after : Tables) (row : Row) (fault : LoadFault) (r : Result ℕ LoadFault)
     → Sofar sheet held line place before frame t → Got sheet held place frame row → r ≡ Err fault
-    → Err fault ≡ line_filed line (placed before (network t) row)
+    → Err fault ≡ line_told (line_filed line (placed before (network t) row))
     → (all : List Found) (end : Option ReadFault) → Reads sheet all end → Filed r after (length all) (sheet_loaded sheet all end)
 line_refused sheet held line place before frame t after row fault r s g answer told-fault all end reads =
     let n = next_line sheet held line place before frame t g.line s g.read all end reads in
     let told : loaded line before (network t) (row_at sheet g.line ∷ map (row_at sheet) n.left) end ≡ Err fault =
     ap (λ (x : Result Before LoadFault). and_then x (λ a. loaded (line + 1) a (filed (network t) (row_at sheet g.line)) (map (row_at sheet) n.left) end))
-    (ap (λ (x : Row). line_filed line (placed before (network t) x)) (sym g.row_is) ∙ sym told-fault) in
+    (ap (λ (x : Row). line_filed line (placed before (network t) x)) (sym g.row_is) ∙ fault_of (line_filed line (placed before (network t) row)) fault told-fault) in
     subst (Filed r after (length all)) n.same (subst (Filed r after (length all)) (sym told) answer)
 
 -- ---- the line is filed
 
 -- a line that was filed had its place and its room
-placed-of : (before : Before) (n : Network) (row : Row) (after : Before) (line : ℕ) (r : Result Before Misplaced) → placed before n row ≡ r
-    → line_filed line r ≡ Ok after → placed before n row ≡ Ok after
-placed-of before n row after line (Ok b) is e = let same : b ≡ after = cc in is ∙ ap Ok same
-placed-of before n row after line (Err why) is e = absurd (let z : ◌≡◌ {A = ℕ} 0 1 = cc in omega arith)
+placed-of : (before : Before) (n : Network) (row : Row) (after : Before) (line : ℕ) (u : Unit {0}) (r : Result Before Misplaced) → placed before n row ≡ r
+    → Ok u ≡ line_told (line_filed line r) → after ≡ before_after before r → placed before n row ≡ Ok after
+placed-of before n row after line u (Ok b) is e a = is ∙ ap Ok (sym a)
+placed-of before n row after line u (Err why) is e a = absurd (let z : ◌≡◌ {A = ℕ} 0 1 = cc in omega arith)
 
-pub line-filed : (sheet held later : List ℕ) (line place forth : ℕ) (before after : Before) (frame then : Frame) (t u : Tables) (row : Row)
+pub line-filed : (sheet held later : List ℕ) (line place forth : ℕ) (before after : Before) (frame then : Frame) (t u : Tables) (row : Row) (unit : Unit {0})
     → Sofar sheet held line place before frame t → Got sheet held place frame row
-    → Ok after ≡ line_filed line (placed before (network t) row)
+    → Ok unit ≡ line_told (line_filed line (placed before (network t) row)) → after ≡ before_after before (placed before (network t) row)
     → Holds u (network_after (placed before (network t) row) (network t) row)
     → later ≡ held → forth ≡ place_after place (line_at frame place held) → then ≡ frame_after frame (line_at frame place held) → place < forth
     → Sofar sheet later (line + 1) forth after then u
-line-filed sheet held later line place forth before after frame then t u row s g told told-holds kept goes framed moves =
+line-filed sheet held later line place forth before after frame then t u row unit s g told knows told-holds kept goes framed moves =
     let n = network t in
     let f = g.line in
-    let is : placed before n row ≡ Ok after = placed-of before n row after line (placed before n row) refl (sym told) in
+    let is : placed before n row ≡ Ok after = placed-of before n row after line unit (placed before n row) refl told knows in
     let h2 : Holds u (filed n row) = subst (λ (x : Result Before Misplaced). Holds u (network_after x n row)) is told-holds in
     let net : network u ≡ filed n (row_at sheet f) = holds_network u (filed n row) h2 ∙ ap (filed n) g.row_is in
     let frame_is : then ≡ frame_after frame (Ok (Some f)) = framed ∙ ap (frame_after frame) g.here in
     let forth-is : forth ≡ f.end = goes ∙ ap (place_after place) g.here in
-    let turn : line_filed line (placed before n (row_at sheet f)) ≡ Ok after = ap (λ (x : Row). line_filed line (placed before n x)) (sym g.row_is) ∙ sym told in
+    let turn : line_filed line (placed before n (row_at sheet f)) ≡ Ok after = ap (λ (x : Row). line_filed line (placed before n x)) (sym g.row_is) ∙ ap (line_filed line) is in
     record {
       sheet_same = kept ∙ s.sheet_same;
       whole = ap (λ (x : Frame). x.end) frame_is ∙ s.whole;
@@ -243,3 +260,7 @@ line-filed sheet held later line place forth before after frame then t u row s g
 
 pub moved : (r : Result (Option PlacedLine) ReadFault) (l : PlacedLine) (p q : ℕ) → r ≡ Ok (Some l) → Moves r p q → p < q
 moved r l p q e m = subst (λ (x : Result (Option PlacedLine) ReadFault). Moves x p q) e m
+
+-- the tables that were lent are those that the filing had
+pub filed_at : (r : Result ℕ LoadFault) (u t : Tables) (count : ℕ) (n : Result Network LoadFault) → u ≡ t → Filed r t count n → Filed r u count n
+filed_at r u t count n e f = subst (λ (x : Tables). Filed r x count n) (sym e) f

@@ -5,26 +5,24 @@ ghost use Rattle.sheet.specs.declared.finding.Found.{Found};
 ghost use Rattle.sheet.specs.Showing.{shows};
 ghost use Rattle.layout.specs.Network.{network, stored, empty, Holds};
 ghost use Rattle.filing.specs.Rows.{row_shown};
-ghost use Rattle.filing.specs.Filing.{placed, network_after};
-ghost use Rattle.tables.specs.Loading.{Reads, sheet_loaded, line_filed, Filed};
+ghost use Rattle.filing.specs.Filing.{placed, before_after, network_after};
+ghost use Rattle.tables.specs.Loading.{Reads, sheet_loaded, line_filed, line_told, Filed};
 
 use super::fault::LoadFault;
-use filing::{Before, Row, file};
+use filing::{Before, Filing, Row};
 use layout::Tables;
 use sheet::{Line, Reader};
 
-// Files one line; what is then known of the lines before.
-fn file_line(
-    tables: &mut Tables,
-    before: Before,
-    number: usize,
-    line: Line<'_>,
-) -> Result<Before, LoadFault>
-    requires holds { Holds tables.old (network tables.old) }
-    ensures answer { result ≡ line_filed number (placed before (network tables.old) (row_shown (shows line.entry))) }
-    ensures after { Holds tables.new (network_after (placed before (network tables.old) (row_shown (shows line.entry))) (network tables.old) (row_shown (shows line.entry))) }
+// Files one line, under its number.
+fn file_line(filing: &mut Filing<'_>, number: usize, line: Line<'_>) -> Result<(), LoadFault>
+    ensures same_reference { filing.new.tables.ghost_name ≡ filing.old.tables.ghost_name }
+    ensures answer { result ≡ line_told (line_filed number (placed filing.old.before (network filing.old.tables.now) (row_shown (shows line.entry)))) }
+    ensures before { filing.new.before ≡ before_after filing.old.before (placed filing.old.before (network filing.old.tables.now) (row_shown (shows line.entry))) }
+    ensures after { Holds filing.new.tables.now (network_after (placed filing.old.before (network filing.old.tables.now) (row_shown (shows line.entry))) (network filing.old.tables.now) (row_shown (shows line.entry))) }
 {
-    file(tables, before, Row::from(line)).map_err(|why| LoadFault::at(number, why))
+    filing
+        .file(Row::from(line))
+        .map_err(|why| LoadFault::at(number, why))
 }
 
 // Files all lines, and counts them; up to the first fault.
@@ -34,16 +32,13 @@ pub(crate) fn file_lines(tables: &mut Tables, sheet: &[u8]) -> Result<usize, Loa
     ensures holds { Holds tables.new (network tables.new) }
 {
     let mut reader = Reader::new(sheet);
-    let mut before = Before {
-        kind: None,
-        location: 0,
-    };
+    let mut filing = Filing::new(tables, Before::default());
     let mut line = 0;
     while let Some(placed) = reader
         .next_line()
         .map_err(|fault| LoadFault::Unreadable { line, fault })?
     {
-        before = file_line(tables, before, line, placed.line)?;
+        file_line(&mut filing, line, placed.line)?;
         line += 1;
     }
     Ok(line)

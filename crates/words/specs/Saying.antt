@@ -1,19 +1,18 @@
 -- What a line says: nothing, a command, or something that is not understood.
 -- A line is read from the left, and the first word at fault is told: its number, where the command is word 0, and why.
-use Rattle.std.specs.Prelude.{ℕ, ◌+◌, Bool, cond, List, [], ◌∷◌, length, drop, Some, None, Ok, Err, vec_items, codes, Option, Result, Vec, ◌==◌, nat_lt, slice_index}
-use Rattle.std.specs.declared.alloc.Global.{Global}
+use Rattle.std.specs.Prelude.{◌≡◌, ℕ, ◌+◌, Bool, cond, List, [], ◌∷◌, length, drop, Some, None, Ok, Err, vec_items, codes, Option, Result, ◌==◌, nat_lt, slice_index}
 use Rattle.std.specs.List.{slice_get}
 use Rattle.std.specs.Option.{ok_or}
 use Rattle.std.specs.Str.{bytes_eq}
 use Rattle.words.specs.declared.line.Command.{Command}
 use Rattle.words.specs.declared.line.Command.TheVariants as command
-use Rattle.words.specs.declared.line.Line.{Line}
-use Rattle.words.specs.declared.line.Line.TheVariants as line
+use Rattle.words.specs.declared.unclear.LineError.{LineError}
+use Rattle.words.specs.declared.unclear.LineError.TheVariants as error
 use Rattle.words.specs.declared.line.OrderKind.{OrderKind}
 use Rattle.words.specs.declared.line.OrderKind.TheVariants.{Drawn, Rights}
-use Rattle.words.specs.declared.line.Unclear.{Unclear}
-use Rattle.words.specs.declared.line.Why.{Why}
-use Rattle.words.specs.declared.line.Why.TheVariants.{NotACommand, NotAnOrder, NotARoleCode, NotARoleSet, NeitherHexNorFile, NotHexadecimal, Missing, TooMany}
+use Rattle.words.specs.declared.unclear.Unclear.{Unclear}
+use Rattle.words.specs.declared.unclear.Why.{Why}
+use Rattle.words.specs.declared.unclear.Why.TheVariants.{NotACommand, NotAnOrder, NotARoleCode, NotARoleSet, NeitherHexNorFile, NotHexadecimal, Missing, TooMany}
 use Rattle.words.specs.declared.named.Name.{Name}
 use Rattle.words.specs.declared.named.Name.TheVariants as name
 use Rattle.words.specs.declared.named.Source.{Source}
@@ -51,6 +50,11 @@ then_ok (Err u) f = Err u
 abbrev pub wanted : {A : Type 0} → (List ℕ → Option A) → Why → ℕ → Option (List ℕ) → Result A Unclear
 wanted reads w place None = Err (fault place Missing)
 wanted reads w place (Some word) = ok_or (reads word) (fault place w)
+
+-- The same, where P says what the word may be read as.
+abbrev pub Wanted : {A : Type 0} → (List ℕ → Option A → Type 0) → Why → ℕ → Option (List ℕ) → Result A Unclear → Type 0
+Wanted {A} P w place None r = r ≡ Err (fault place Missing)
+Wanted {A} P w place (Some word) r = (o : Option A) × P word o × (r ≡ ok_or o (fault place w))
 
 -- The names of the commands.
 abbrev pub name_of : List ℕ → Option Name
@@ -176,11 +180,6 @@ said_by (w ∷ ws) = cond (is_note w) passed (said_is (asked_by (name_of w) (w �
 abbrev pub said : List ℕ → Said
 said bytes = said_by (words_of bytes)
 
--- The bytes that were read, as the program holds them.
-abbrev pub held : Result (Vec ℕ Global) Unclear → Result (List ℕ) Unclear
-held (Ok bytes) = Ok (vec_items bytes)
-held (Err u) = Err u
-
 -- What a command asks, as the program holds it.
 abbrev pub asked_of : Command → Asked
 asked_of (command.Order kind) = order kind
@@ -191,13 +190,15 @@ asked_of (command.Opens a b) = opens a b
 asked_of (command.ListHex bytes) = list_hex (vec_items bytes)
 asked_of (command.ListFile name) = list_file (vec_items name)
 
--- The same where a fault may stand in its place.
-abbrev pub asked : Result Command Unclear → Result Asked Unclear
-asked (Ok c) = Ok (asked_of c)
-asked (Err u) = Err u
+-- What the program read is what has to be read, where `shows` tells what it holds. Want of memory is the only other end.
+abbrev pub Reads : {A B : Type 0} → (A → B) → Result A LineError → Result B Unclear → Type 0
+Reads shows (Ok x) r = Ok (shows x) ≡ r
+Reads shows (Err (error.Unclear u)) r = Err u ≡ r
+Reads shows (Err error.OutOfMemory) r = Unit {0}
 
--- What a line says, as the program holds it.
-abbrev pub said_of : Line → Said
-said_of line.Passed = passed
-said_of (line.Asks c) = asks (asked_of c)
-said_of (line.Unclear u) = unclear u
+-- What a line says, as the program holds it; nothing where memory ran out.
+abbrev pub said_of : Result (Option Command) LineError → Option Said
+said_of (Ok None) = Some passed
+said_of (Ok (Some c)) = Some (asks (asked_of c))
+said_of (Err (error.Unclear u)) = Some (unclear u)
+said_of (Err error.OutOfMemory) = None

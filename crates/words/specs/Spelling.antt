@@ -1,8 +1,8 @@
 -- What a word spells: a number, a role's code, a set of roles. A word that spells none of its kind gives nothing.
 use Rattle.std.specs.Prelude.{ℕ, ◌+◌, ◌-◌, ◌*◌, ◌^◌, Bool, cond, ◌&&◌, List, [], ◌∷◌, length, Some, None, Option, ◌==◌, bit_or, nat_le, slice_index}
-use Rattle.std.specs.List.{between}
+use Rattle.std.specs.List.{between, slice_split}
 use Rattle.std.specs.Str.{all_ascii_digits}
-use Rattle.words.specs.Cutting.{stretches, is_comma}
+use Rattle.words.specs.Cutting.{is_comma}
 
 -- Each digit counts ten times for each digit behind it.
 abbrev pub worth : List ℕ → ℕ
@@ -50,7 +50,7 @@ all_roles (w ∷ ws) = joined (one_role w) (all_roles ws)
 -- What stands between a set's braces: nothing at all, or roles with commas between them.
 unfoldable pub roles_in : List ℕ → Option ℕ
 roles_in [] = Some 0
-roles_in (b ∷ bs) = all_roles (stretches is_comma (b ∷ bs))
+roles_in (b ∷ bs) = all_roles (slice_split is_comma (b ∷ bs))
 
 -- A word in braces.
 abbrev pub in_braces : List ℕ → Bool

@@ -13,18 +13,7 @@ fn is_blank(byte: u8) -> bool
 pub(crate) fn cut<'a>(heap: Global, line: &'a [u8]) -> Result<Vec<&'a [u8]>, AllocError>
     ensures answer { IfOk result (λ words. texts words.items ≡ words_of line.now) }
 {
-    let mut words = Vec::new(heap);
-    let mut start = 0;
-    for (i, byte) in line.iter().enumerate() {
-        if is_blank(*byte) {
-            if start < i {
-                words.push(&line[start..i])?;
-            }
-            start = i + 1;
-        }
-    }
-    if start < line.len() {
-        words.push(&line[start..])?;
-    }
-    Ok(words)
+    line.split(|byte| is_blank(*byte))
+        .filter(|word| !word.is_empty())
+        .collect(heap)
 }

@@ -28,15 +28,14 @@ fn hex_byte(high: u8, low: u8) -> Option<u8>
 pub(crate) fn hex_bytes(heap: Global, word: &[u8]) -> Result<Option<Vec<u8>>, AllocError>
     ensures answer { IfOk result (λ read. option_map vec_items read ≡ hex_bytes word.now) }
 {
-    if word.len() % 2 != 0 {
-        return Ok(None);
-    }
     let mut bytes = Vec::new(heap);
-    for i in 0..word.len() / 2 {
-        let Some(byte) = hex_byte(word[2 * i], word[2 * i + 1]) else {
+    let mut digits = word;
+    while let [high, low, more @ ..] = digits {
+        let Some(byte) = hex_byte(*high, *low) else {
             return Ok(None);
         };
         bytes.push(byte)?;
+        digits = more;
     }
-    Ok(Some(bytes))
+    Ok(digits.is_empty().then_some(bytes))
 }

@@ -9,7 +9,9 @@ mod line;
 mod named;
 mod read;
 mod spelled;
+mod unclear;
 
 pub use laws::reads_back;
-pub use line::{Command, Line, OrderKind, Unclear, Why};
+pub use line::{Command, OrderKind};
 pub use read::read_line;
+pub use unclear::{LineError, Unclear, Why};

@@ -1,13 +1,13 @@
-// What one line of input can say.
+// What one line of input can ask.
 
 // Which order of roles is asked for: one that is drawn pair by pair, or the one that goes by rights.
-#[derive(Clone, Copy)]
+#[derive(Clone, Copy, Debug, PartialEq, Eq)]
 pub enum OrderKind {
     Drawn,
     Rights,
 }
 
-#[derive(Drop)]
+#[derive(Debug, PartialEq, Eq, Drop)]
 pub enum Command {
     Order(OrderKind),
     // Each pair puts its first role below its second.
@@ -20,33 +20,4 @@ pub enum Command {
     ListHex(Vec<u8>),
     // The name of the file that holds a sheet.
     ListFile(Vec<u8>),
-}
-
-#[derive(Clone, Copy)]
-pub enum Why {
-    NotACommand,
-    NotAnOrder,
-    NotARoleCode,
-    NotARoleSet,
-    NeitherHexNorFile,
-    NotHexadecimal,
-    // The file that the word names.
-    CannotBeRead,
-    Missing,
-    TooMany,
-}
-
-// The first word that is not understood, counted from the command, which is word 0.
-#[derive(Clone, Copy)]
-pub struct Unclear {
-    pub word: usize,
-    pub why: Why,
-}
-
-#[derive(Drop)]
-pub enum Line {
-    // Nothing, or a note for a reader.
-    Passed,
-    Asks(Command),
-    Unclear(Unclear),
 }

@@ -1,119 +1,89 @@
 // Reads what a line says, word by word from the left.
-ghost use Rattle.std.specs.Prelude.{◌≡◌, ◌<◌, length, IfOk};
+ghost use Rattle.std.specs.Prelude.{◌≡◌, Some, IfSome};
 ghost use Rattle.words.specs.Cutting.{texts};
-ghost use Rattle.words.specs.Saying.{order_asked, below_asked, under_asked, opens_asked, draw_asked, closed, hex_asked, file_asked, list_asked, asked_of, asked, asked_by, said_is, is_note, said_by, said, said_of};
+ghost use Rattle.words.specs.Saying.{Reads, order_asked, below_asked, under_asked, opens_asked, draw_asked, list_asked, asked_of, asked_by, is_note, said_by, said, said_of};
 
-use super::argument::{end_at, hex_at, order_at, role_code_at, role_set_at, source_at, word_at};
+use super::argument::Arguments;
 use super::cut::cut;
-use super::line::{Command, Line, Unclear, Why};
+use super::line::Command;
 use super::named::{Name, Source, name_of};
-use std::alloc::{AllocError, Global};
+use super::unclear::{LineError, Unclear, Why};
+use std::alloc::Global;
 
-fn order(words: &[&[u8]]) -> Result<Command, Unclear>
-    ensures answer { asked result ≡ order_asked (texts words.now) }
+fn order(words: &[&[u8]]) -> Result<Command, LineError>
+    ensures answer { Reads asked_of result (order_asked (texts words.now)) }
 {
-    let kind = order_at(words, 1)?;
-    end_at(words, 2)?;
+    let mut arguments = Arguments::of(words);
+    let kind = arguments.order()?;
+    arguments.end()?;
     Ok(Command::Order(kind))
 }
 
-fn below(words: &[&[u8]]) -> Result<Command, Unclear>
-    ensures answer { asked result ≡ below_asked (texts words.now) }
+fn below(words: &[&[u8]]) -> Result<Command, LineError>
+    ensures answer { Reads asked_of result (below_asked (texts words.now)) }
 {
-    let a = role_code_at(words, 1)?;
-    let b = role_code_at(words, 2)?;
-    end_at(words, 3)?;
+    let mut arguments = Arguments::of(words);
+    let a = arguments.role_code()?;
+    let b = arguments.role_code()?;
+    arguments.end()?;
     Ok(Command::Below { a, b })
 }
 
-fn under(words: &[&[u8]]) -> Result<Command, Unclear>
-    ensures answer { asked result ≡ under_asked (texts words.now) }
+fn under(words: &[&[u8]]) -> Result<Command, LineError>
+    ensures answer { Reads asked_of result (under_asked (texts words.now)) }
 {
-    let a = role_set_at(words, 1)?;
-    let b = role_set_at(words, 2)?;
-    end_at(words, 3)?;
+    let mut arguments = Arguments::of(words);
+    let a = arguments.role_set()?;
+    let b = arguments.role_set()?;
+    arguments.end()?;
     Ok(Command::Under { a, b })
 }
 
-fn opens(words: &[&[u8]]) -> Result<Command, Unclear>
-    ensures answer { asked result ≡ opens_asked (texts words.now) }
+fn opens(words: &[&[u8]]) -> Result<Command, LineError>
+    ensures answer { Reads asked_of result (opens_asked (texts words.now)) }
 {
-    let set = role_set_at(words, 1)?;
-    let roles = role_set_at(words, 2)?;
-    end_at(words, 3)?;
+    let mut arguments = Arguments::of(words);
+    let set = arguments.role_set()?;
+    let roles = arguments.role_set()?;
+    arguments.end()?;
     Ok(Command::Opens { set, roles })
 }
 
-fn line_of(read: Result<Command, Unclear>) -> Line
-    ensures answer { said_of result ≡ said_is (asked read) }
+fn draw(heap: Global, words: &[&[u8]]) -> Result<Command, LineError>
+    ensures answer { Reads asked_of result (draw_asked (texts words.now)) }
 {
-    match read {
-        Ok(command) => Line::Asks(command),
-        Err(unclear) => Line::Unclear(unclear),
-    }
+    let mut arguments = Arguments::of(words);
+    let pairs = arguments.pairs(heap)?;
+    Ok(Command::Draw(pairs))
 }
 
-// A code waits in `first` until the second of its pair is read.
-fn draw(heap: Global, words: &[&[u8]]) -> Result<Line, AllocError>
-    requires { 0 < length words.now }
-    ensures answer { IfOk result (λ line. said_of line ≡ said_is (draw_asked (texts words.now))) }
+fn list(heap: Global, words: &[&[u8]]) -> Result<Command, LineError>
+    ensures answer { Reads asked_of result (list_asked (texts words.now)) }
 {
-    let mut pairs = Vec::new(heap);
-    let mut first: Option<u32> = None;
-    for place in 1..words.len() {
-        match role_code_at(words, place) {
-            Err(unclear) => return Ok(Line::Unclear(unclear)),
-            Ok(code) => match first {
-                None => first = Some(code),
-                Some(a) => {
-                    pairs.push((a, code))?;
-                    first = None;
-                }
-            },
-        }
-    }
-    match first {
-        None => Ok(Line::Asks(Command::Draw(pairs))),
-        Some(_) => Ok(Line::Unclear(Unclear {
-            word: words.len(),
-            why: Why::Missing,
-        })),
-    }
-}
-
-// The command, if the line ends before the word 3.
-fn close(words: &[&[u8]], command: Command) -> Result<Command, Unclear>
-    ensures answer { asked result ≡ closed (texts words.now) (asked_of command) }
-{
-    end_at(words, 3)?;
+    let mut arguments = Arguments::of(words);
+    let command = match arguments.source()? {
+        Source::Hex => Command::ListHex(arguments.hex(heap)?),
+        Source::File => Command::ListFile(arguments.own_bytes(heap)?),
+    };
+    arguments.end()?;
     Ok(command)
 }
 
-fn list_hex(heap: Global, words: &[&[u8]]) -> Result<Line, AllocError>
-    ensures answer { IfOk result (λ line. said_of line ≡ said_is (hex_asked (texts words.now))) }
+// The words are those of the command, its name among them.
+fn asked_by(heap: Global, name: Option<Name>, words: &[&[u8]]) -> Result<Command, LineError>
+    ensures answer { Reads asked_of result (asked_by name (texts words.now)) }
 {
-    match hex_at(heap, words, 2)? {
-        Ok(bytes) => Ok(line_of(close(words, Command::ListHex(bytes)))),
-        Err(unclear) => Ok(Line::Unclear(unclear)),
-    }
-}
-
-fn list_file(heap: Global, words: &[&[u8]]) -> Result<Line, AllocError>
-    ensures answer { IfOk result (λ line. said_of line ≡ said_is (file_asked (texts words.now))) }
-{
-    match word_at(heap, words, 2)? {
-        Ok(name) => Ok(line_of(close(words, Command::ListFile(name)))),
-        Err(unclear) => Ok(Line::Unclear(unclear)),
-    }
-}
-
-fn list(heap: Global, words: &[&[u8]]) -> Result<Line, AllocError>
-    ensures answer { IfOk result (λ line. said_of line ≡ said_is (list_asked (texts words.now))) }
-{
-    match source_at(words, 1) {
-        Ok(Source::Hex) => list_hex(heap, words),
-        Ok(Source::File) => list_file(heap, words),
-        Err(unclear) => Ok(Line::Unclear(unclear)),
+    match name {
+        Some(Name::Order) => order(words),
+        Some(Name::Draw) => draw(heap, words),
+        Some(Name::Below) => below(words),
+        Some(Name::Under) => under(words),
+        Some(Name::Opens) => opens(words),
+        Some(Name::List) => list(heap, words),
+        None => Err(LineError::Unclear(Unclear {
+            word: 0,
+            why: Why::NotACommand,
+        })),
     }
 }
 
@@ -121,48 +91,21 @@ fn list(heap: Global, words: &[&[u8]]) -> Result<Line, AllocError>
 fn is_note(word: &[u8]) -> bool
     ensures answer { result ≡ is_note word.now }
 {
-    if word.is_empty() {
-        return false;
-    }
-    word[0] == b'#'
+    word.first() == Some(&b'#')
 }
 
-// The words are those of the command, its name among them.
-fn asked_by(heap: Global, name: Option<Name>, words: &[&[u8]]) -> Result<Line, AllocError>
-    requires { 0 < length words.now }
-    ensures answer { IfOk result (λ line. said_of line ≡ said_is (asked_by name (texts words.now))) }
+fn said_by(heap: Global, words: &[&[u8]]) -> Result<Option<Command>, LineError>
+    ensures answer { IfSome (said_of result) (λ read. read ≡ said_by (texts words.now)) }
 {
-    let Some(name) = name else {
-        return Ok(Line::Unclear(Unclear {
-            word: 0,
-            why: Why::NotACommand,
-        }));
-    };
-    match name {
-        Name::Order => Ok(line_of(order(words))),
-        Name::Draw => draw(heap, words),
-        Name::Below => Ok(line_of(below(words))),
-        Name::Under => Ok(line_of(under(words))),
-        Name::Opens => Ok(line_of(opens(words))),
-        Name::List => list(heap, words),
+    match words.first() {
+        Some(first) if !is_note(first) => Ok(Some(asked_by(heap, name_of(first), words)?)),
+        _ => Ok(None),
     }
 }
 
-fn said_by(heap: Global, words: &[&[u8]]) -> Result<Line, AllocError>
-    ensures answer { IfOk result (λ line. said_of line ≡ said_by (texts words.now)) }
-{
-    let Some(first) = words.first() else {
-        return Ok(Line::Passed);
-    };
-    if is_note(first) {
-        return Ok(Line::Passed);
-    }
-    asked_by(heap, name_of(first), words)
-}
-
-// What one line of input says. Want of memory is the only error.
-pub fn read_line(heap: Global, line: &[u8]) -> Result<Line, AllocError>
-    ensures answer { IfOk result (λ read. said_of read ≡ said line.now) }
+// What one line of input asks, if it is not empty and no note for a reader.
+pub fn read_line(heap: Global, line: &[u8]) -> Result<Option<Command>, LineError>
+    ensures answer { IfSome (said_of result) (λ read. read ≡ said line.now) }
 {
     let words = cut(heap, line)?;
     said_by(heap, words.as_slice())

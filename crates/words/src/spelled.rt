@@ -37,15 +37,11 @@ fn roles(inner: &[u8]) -> Option<u64>
     if inner.is_empty() {
         return Some(0);
     }
-    let mut set: u64 = 0;
-    let mut start = 0;
-    for (i, byte) in inner.iter().enumerate() {
-        if *byte == b',' {
-            set |= one_role(&inner[start..i])?;
-            start = i + 1;
-        }
+    let mut set = 0;
+    for word in inner.split(|byte| *byte == b',') {
+        set |= one_role(word)?;
     }
-    Some(set | one_role(&inner[start..])?)
+    Some(set)
 }
 
 pub(crate) fn role_code(word: &[u8]) -> Option<u32>
@@ -58,7 +54,7 @@ pub(crate) fn role_set(word: &[u8]) -> Option<u64>
     ensures answer { result ≡ role_set word.now }
 {
     match word {
-        [b'{', .., b'}'] => roles(&word[1..word.len() - 1]),
+        [b'{', inner @ .., b'}'] => roles(inner),
         _ => None,
     }
 }

@@ -1,0 +1,102 @@
+// Why a line is not understood, or could not be read.
+ghost use Rattle.std.specs.Prelude.{◌≡◌, Some};
+ghost use Rattle.words.specs.Showing.{reason_of, unclear_text, error_text};
+ghost use Rattle.words.specs.declared.unclear.LineError.{LineError};
+ghost use Rattle.words.specs.declared.unclear.LineError.TheVariants as error;
+
+use std::alloc::{AllocError, AllocFailed};
+use std::error::Error;
+use std::fmt;
+
+#[derive(Clone, Copy, Debug, PartialEq, Eq)]
+pub enum Why {
+    NotACommand,
+    NotAnOrder,
+    NotARoleCode,
+    NotARoleSet,
+    NeitherHexNorFile,
+    NotHexadecimal,
+    // The file that the word names.
+    CannotBeRead,
+    Missing,
+    TooMany,
+}
+
+impl fmt::Display for Why {
+    ghost output = { λ why. Some (reason_of why) };
+
+    fn fmt<W: fmt::Write>(&self, f: &mut fmt::Formatter<W>) -> fmt::Result {
+        f.write_str(match self {
+            Why::NotACommand => "no such command",
+            Why::NotAnOrder => "no such order",
+            Why::NotARoleCode => "not a role code",
+            Why::NotARoleSet => "not a role set",
+            Why::NeitherHexNorFile => "neither hex nor file",
+            Why::NotHexadecimal => "not hexadecimal",
+            Why::CannotBeRead => "cannot be read",
+            Why::Missing => "missing",
+            Why::TooMany => "too many words",
+        })
+    }
+}
+
+// The first word that is not understood, counted from the command, which is word 0.
+#[derive(Clone, Copy, Debug, PartialEq, Eq)]
+pub struct Unclear {
+    pub word: usize,
+    pub why: Why,
+}
+
+impl fmt::Display for Unclear {
+    ghost output = { λ unclear. Some (unclear_text unclear) };
+
+    fn fmt<W: fmt::Write>(&self, f: &mut fmt::Formatter<W>) -> fmt::Result {
+        write!(f, "word {}: {}", self.word, self.why)
+    }
+}
+
+impl Error for Unclear {}
+
+// Why a line could not be read as a command.
+#[derive(Clone, Copy, Debug, PartialEq, Eq)]
+pub enum LineError {
+    OutOfMemory,
+    Unclear(Unclear),
+}
+
+impl fmt::Display for LineError {
+    ghost output = { λ e. Some (error_text e) };
+
+    fn fmt<W: fmt::Write>(&self, f: &mut fmt::Formatter<W>) -> fmt::Result {
+        match self {
+            LineError::OutOfMemory => f.write_str("out of memory"),
+            LineError::Unclear(what) => write!(f, "{what}"),
+        }
+    }
+}
+
+impl Error for LineError {}
+
+impl From<Unclear> for LineError {
+    ghost from_gives = { λ unclear e. e ≡ error.Unclear unclear };
+
+    fn from(unclear: Unclear) -> LineError {
+        LineError::Unclear(unclear)
+    }
+}
+
+impl From<AllocError> for LineError {
+    ghost from_gives = { λ _ e. e ≡ error.OutOfMemory };
+
+    fn from(_error: AllocError) -> LineError {
+        LineError::OutOfMemory
+    }
+}
+
+impl<T: Drop> From<AllocFailed<T>> for LineError {
+    ghost from_gives = { λ _ e. e ≡ error.OutOfMemory };
+
+    fn from(_error: AllocFailed<T>) -> LineError {
+        LineError::OutOfMemory
+    }
+}
