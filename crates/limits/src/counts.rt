@@ -118,12 +118,11 @@ fn shelve(tables: &mut Tables, trees: usize, lines: usize) {
 fn judge_shelves(rt: &HostRuntime, tables: &mut Tables, case: &str) -> io::Result<()> {
     let (what, shelves) = parts(case);
     let numbers = numbers_of(rt, shelves)?;
-    let numbers = numbers.as_slice();
-    if numbers.len() != 2 {
+    let [trees, lines] = numbers.as_slice() else {
         return println!(rt; "{what} -> not written");
-    }
+    };
     crowd(tables);
-    shelve(tables, numbers[0] as usize, numbers[1] as usize);
+    shelve(tables, *trees as usize, *lines as usize);
     tell_place::<Drawn>(rt, what, tables, Stage::Live)
 }
 

@@ -58,14 +58,11 @@ const PAST_LIVE: &str = "\
 fn spoil(rt: &HostRuntime, tables: &mut Tables, start: Start, case: &str) -> io::Result<()> {
     let (name, row) = parts(case);
     let numbers = numbers_of(rt, row)?;
-    let numbers = numbers.as_slice();
-    if numbers.len() < 2 {
+    let [table, row, fields @ ..] = numbers.as_slice() else {
         return Ok(());
-    }
+    };
     let sheet = written(rt, start.sheet)?;
-    let table = numbers[0];
-    let row = numbers[1];
-    for field in &numbers[2..] {
+    for field in fields {
         let case = format!(in rt.alloc(); "{name}, field {field} | {table} {row} {field} 1")?;
         let filled = fill(tables, sheet.as_slice()) && write(rt, tables, start.pokes)?;
         judge::<Drawn>(rt, tables, filled, start.stage, case.as_str())?;

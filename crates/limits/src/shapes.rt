@@ -72,15 +72,14 @@ fn narrow(number: u64) -> u32 {
 // Whether the number was written; no number is.
 fn write_one(rt: &HostRuntime, tables: &mut Tables, text: &str) -> io::Result<bool> {
     let numbers = numbers_of(rt, text)?;
-    let numbers = numbers.as_slice();
-    if numbers.len() != 4 {
+    let [table, row, field, value] = numbers.as_slice() else {
         return Ok(numbers.is_empty());
-    }
+    };
     let change = Poke {
-        table: narrow(numbers[0]),
-        row: narrow(numbers[1]),
-        field: narrow(numbers[2]),
-        value: numbers[3],
+        table: narrow(*table),
+        row: narrow(*row),
+        field: narrow(*field),
+        value: *value,
     };
     Ok(poke(tables, change).is_ok())
 }

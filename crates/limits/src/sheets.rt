@@ -27,13 +27,12 @@ fn write_line(sheet: &mut Vec<u8>, line: &[u64], at: usize, rise: u64) -> io::Re
 
 fn write_run(rt: &HostRuntime, sheet: &mut Vec<u8>, run: &str) -> io::Result<()> {
     let numbers = numbers_of(rt, run)?;
-    let numbers = numbers.as_slice();
-    if numbers.len() < 3 {
+    let [lines, times, at, line @ ..] = numbers.as_slice() else {
         return Ok(());
-    }
-    for rise in 0..numbers[0] {
-        for _ in 0..numbers[1] {
-            write_line(sheet, &numbers[3..], numbers[2] as usize, rise)?;
+    };
+    for rise in 0..*lines {
+        for _ in 0..*times {
+            write_line(sheet, line, *at as usize, rise)?;
         }
     }
     Ok(())

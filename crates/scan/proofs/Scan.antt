@@ -1,4 +1,4 @@
-use Rattle.std.proofs.Common.{◌≡◌, ℕ, zero, suc, ◌+◌, ◌<◌, ◌≤◌, Bool, true, false, ◌⊎◌, List, [], ◌∷◌, length, get_or, take, drop, Some, None, Option, refl, ap, ◌∙◌, subst, inl, inr, arith}
+use Rattle.std.proofs.Common.{◌≡◌, ℕ, zero, suc, ◌+◌, ◌<◌, ◌≤◌, Bool, true, false, List, [], ◌∷◌, length, get_or, take, drop, Some, None, Option, refl, ap, ◌∙◌, subst, arith}
 use Rattle.std.proofs.lemmas.List.{drop_more, drop_all}
 use Rattle.scan.specs.Scan.{or_else, first_of, told, scan, first_bad, carried}
 
@@ -74,25 +74,3 @@ module _ {X : Type 0} (ok : ℕ → X → Bool) where
 
   pub each_bad : (i : ℕ) (xs : List X) (z : X) → ((k : ℕ) → k < length xs → ok (i + k) (get_or xs k z) ≡ true) → first_bad ok i xs ≡ None
   each_bad i xs z h = each_scan (λ (s : Unit {0}) i x. ok i x) (λ s x. s) tt i xs z h
-
-pub carried-next : {S X : Type 0} (next : S → X → S) (s : S) (xs : List X) (i : ℕ) (z : X) → i < length xs → carried next s (drop i xs) ≡ carried next (next s (get_or xs i z)) (drop (i + 1) xs)
-carried-next next s xs i z h = ap (carried next s) (drop_more xs i z h)
-
-pub carried-done : {S X : Type 0} (next : S → X → S) (s : S) (xs : List X) (i : ℕ) → length xs ≤ i → carried next s (drop i xs) ≡ s
-carried-done next s xs i h = ap (carried next s) (drop_all i xs h)
-
--- a row that is told is one of the rows
-some_or : (a b : Option ℕ) (r : ℕ) → or_else a b ≡ Some r → (a ≡ Some r) ⊎ (b ≡ Some r)
-some_or (Some x) b r e = inl e
-some_or None b r e = inr e
-
-told-some : (b : Bool) (i r : ℕ) → told b i ≡ Some r → r ≡ i
-told-some true i r e = let z : ◌≡◌ {A = ℕ} 0 1 = cc in absurd (omega arith)
-told-some false i r e = cc
-
-pub scan-bound : {S X : Type 0} (ok : S → ℕ → X → Bool) (next : S → X → S) (s : S) (i : ℕ) (xs : List X) (r : ℕ) → scan ok next s i xs ≡ Some r → r < i + length xs
-scan-bound ok next s i [] r e = let z : ◌≡◌ {A = ℕ} 0 1 = cc in absurd (omega arith)
-scan-bound ok next s i (x ∷ xs) r e = elim (some_or (told (ok s i x) i) (scan ok next (next s x) (i + 1) xs) r e) [
-  | inl a ↦ let q = told-some (ok s i x) i r a in omega arith
-  | inr b ↦ let q = scan-bound ok next (next s x) (i + 1) xs r b in omega arith
-]

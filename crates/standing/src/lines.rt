@@ -149,9 +149,8 @@ impl Judged<Sizes> for TemplateRow {
     }
 
     fn note(&self, before: &mut LinesBefore) {
-        let template = self.template;
         *before = LinesBefore {
-            templates: template as usize + 1,
+            templates: self.template as usize + 1,
             line: line_after(self.line),
         };
     }

@@ -49,11 +49,9 @@ impl Judged<Sizes> for PathStepRow {
     }
 
     fn note(&self, before: &mut StepsBefore) {
-        let run = run_after(*before, *self);
-        let path = self.path;
         *before = StepsBefore {
-            paths: path as usize + 1,
-            run,
+            paths: self.path as usize + 1,
+            run: run_after(*before, *self),
         };
     }
 }
