@@ -14,13 +14,12 @@ use Rattle.filing.specs.declared.decoded.Row.TheVariants.{Policy, Grant, Locatio
 use Rattle.filing.specs.declared.placing.Before.{Before}
 use Rattle.filing.specs.declared.placing.Misplaced.{Misplaced}
 use Rattle.filing.specs.declared.placing.Misplaced.TheVariants.{OutOfPlace, Full}
-use Rattle.sheet.specs.declared.kinds.LineKind.{LineKind}
 use Rattle.sheet.specs.Kinds.{code_of}
 use Rattle.filing.specs.Rows.{row_kind}
 
 -- before the first line there is no line of any kind
 abbrev pub none_before : Before
-none_before = record { kind = None; location = 0 }
+none_before = record { kind = 0; location = 0 }
 
 -- ---- in its place
 
@@ -52,13 +51,13 @@ follows before n (Pattern row) = true
 follows before n (Command row) = true
 follows before n (Job row) = true
 
--- the kinds come in their order, and any may come first
-abbrev pub comes_after : Option LineKind → LineKind → Bool
-comes_after None kind = true
-comes_after (Some last) kind = nat_le (code_of last) (code_of kind)
+-- the number of the row's kind in a sheet
+abbrev pub kind_number : Row → ℕ
+kind_number row = code_of (row_kind row)
 
+-- the kinds come in their order
 abbrev pub in_place : Before → Network → Row → Bool
-in_place before n row = comes_after before.kind (row_kind row) && follows before n row
+in_place before n row = nat_le before.kind (kind_number row) && follows before n row
 
 -- ---- room
 
@@ -133,7 +132,7 @@ location_after location (Command row) = location
 location_after location (Job row) = location
 
 abbrev pub behind : Before → Row → Before
-behind before row = record { kind = Some (row_kind row); location = location_after before.location row }
+behind before row = record { kind = kind_number row; location = location_after before.location row }
 
 -- a line out of place is told before a full table
 abbrev pub placed : Before → Network → Row → Result Before Misplaced

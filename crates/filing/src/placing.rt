@@ -8,15 +8,14 @@ use super::decoded::Row;
 use super::putting::put;
 use layout::{NoRoom, Tables};
 use rows::Numbered;
-use sheet::LineKind;
 use std::error::Error;
 use std::fmt;
 
-// What is known of the lines before: the kind of the last one, none before the first, and the location of the last edge,
-// 0 before the first.
+// What is known of the lines before: the number of the last one's kind, and the location of the last edge; 0 before the
+// first. Whoever files a line may say any two numbers here, so the kind is not an enum.
 #[derive(Clone, Copy, Debug, Default, PartialEq, Eq)]
 pub struct Before {
-    pub kind: Option<LineKind>,
+    pub kind: u32,
     pub location: u32,
 }
 
@@ -71,7 +70,7 @@ fn next_number<T: Numbered>(rows: &[T]) -> usize
 fn in_place(tables: &Tables, before: Before, row: Row) -> bool
     ensures answer { result ≡ in_place before (network tables.now) row }
 {
-    if Some(row.kind()) < before.kind {
+    if u32::from(row.kind()) < before.kind {
         return false;
     }
     match row {
@@ -102,7 +101,7 @@ impl Before {
             _ => self.location,
         };
         Before {
-            kind: Some(row.kind()),
+            kind: u32::from(row.kind()),
             location,
         }
     }
