@@ -97,23 +97,23 @@ const LINES: [(&str, &[u8]); 9] = [
 // The line cut at each of its bytes, and then whole.
 fn cuts(rt: &HostRuntime) -> io::Result<()> {
     for (name, line) in LINES {
-        for at in 0..line.len() {
-            first(rt, name, &line[0..at])?;
+        for at in 0..=line.len() {
+            first(rt, name, &line[..at])?;
         }
-        first(rt, name, line)?;
+    }
+    Ok(())
+}
+
+fn all(rt: &HostRuntime, sheets: &[(&str, &[u8])]) -> io::Result<()> {
+    for (name, sheet) in sheets {
+        first(rt, name, sheet)?;
     }
     Ok(())
 }
 
 pub(crate) fn run(rt: &HostRuntime) -> io::Result<()> {
-    for (name, sheet) in NARROW {
-        first(rt, name, sheet)?;
-    }
-    for (name, sheet) in WIDE {
-        first(rt, name, sheet)?;
-    }
-    for (name, sheet) in KINDS {
-        first(rt, name, sheet)?;
-    }
+    all(rt, &NARROW)?;
+    all(rt, &WIDE)?;
+    all(rt, &KINDS)?;
     cuts(rt)
 }
