@@ -1,22 +1,16 @@
 // The sheet: both sides of every limit of a number, the kinds around the nine, and a cut at each byte of a line of each kind.
 use super::tells::tell;
-use answer::Answer;
-use listing::{ListError, Listing};
-use std::alloc::AllocError;
+use listing::Listing;
 use std::io;
+use std::ops::ControlFlow;
 
 // What stands first in the sheet.
 pub(crate) fn first(rt: &HostRuntime, name: &str, sheet: &[u8]) -> io::Result<()> {
     let mut listing = Listing::new(sheet);
-    let answer = match listing.next(rt.alloc()) {
-        Ok(Some(text)) => return tell(rt, name, text.as_str()),
-        Ok(None) => Answer::Count {
-            lines: listing.lines(),
-        },
-        Err(ListError::Unreadable { line, fault }) => Answer::ReadRefused { line, fault },
-        Err(ListError::OutOfMemory) => return Err(AllocError.into()),
-    };
-    tell(rt, name, answer.to_string(rt.alloc())?.as_str())
+    match listing.next(rt.alloc())? {
+        ControlFlow::Continue(text) => tell(rt, name, text.as_str()),
+        ControlFlow::Break(answer) => tell(rt, name, answer.to_string(rt.alloc())?.as_str()),
+    }
 }
 
 const NARROW: [(&str, &[u8]); 12] = [
@@ -103,23 +97,23 @@ const LINES: [(&str, &[u8]); 9] = [
 // The line cut at each of its bytes, and then whole.
 fn cuts(rt: &HostRuntime) -> io::Result<()> {
     for (name, line) in LINES {
-        for at in 0..line.len() {
-            first(rt, name, &line[0..at])?;
+        for at in 0..=line.len() {
+            first(rt, name, &line[..at])?;
         }
-        first(rt, name, line)?;
+    }
+    Ok(())
+}
+
+fn all(rt: &HostRuntime, sheets: &[(&str, &[u8])]) -> io::Result<()> {
+    for (name, sheet) in sheets {
+        first(rt, name, sheet)?;
     }
     Ok(())
 }
 
 pub(crate) fn run(rt: &HostRuntime) -> io::Result<()> {
-    for (name, sheet) in NARROW {
-        first(rt, name, sheet)?;
-    }
-    for (name, sheet) in WIDE {
-        first(rt, name, sheet)?;
-    }
-    for (name, sheet) in KINDS {
-        first(rt, name, sheet)?;
-    }
+    all(rt, &NARROW)?;
+    all(rt, &WIDE)?;
+    all(rt, &KINDS)?;
     cuts(rt)
 }

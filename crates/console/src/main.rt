@@ -4,28 +4,20 @@
 
 use answer::Answer;
 use anyhow::anyhow;
-use listing::{ListError, Listing};
+use listing::Listing;
 use session::{Reply, Session};
-use std::alloc::AllocError;
 use std::fs::File;
 use std::io::{BufRead, BufReader, Read};
+use std::ops::ControlFlow;
 use std::{env, fs, str};
 use words::{Unclear, Why};
 
 fn list(rt: &HostRuntime, sheet: &[u8]) -> anyhow::Result<()> {
     let mut listing = Listing::new(sheet);
     let answer = loop {
-        match listing.next(rt.alloc()) {
-            Ok(Some(text)) => println!(rt; "{text}")?,
-            Ok(None) => {
-                break Answer::Count {
-                    lines: listing.lines(),
-                };
-            }
-            Err(ListError::Unreadable { line, fault }) => {
-                break Answer::ReadRefused { line, fault };
-            }
-            Err(ListError::OutOfMemory) => return Err(AllocError.into()),
+        match listing.next(rt.alloc())? {
+            ControlFlow::Continue(text) => println!(rt; "{text}")?,
+            ControlFlow::Break(answer) => break answer,
         }
     };
     println!(rt; "{answer}")?;

@@ -1,15 +1,17 @@
 -- What a listing tells next: the line at the reader's place, or how the reading ended.
 use Rattle.std.specs.Prelude.{◌≡◌, ℕ, ◌+◌, List, Some, None, Ok, Err, string_bytes, Option, Result, String}
 use Rattle.std.specs.declared.alloc.Global.{Global}
+use Rattle.std.specs.declared.ops.ControlFlow.{ControlFlow}
+use Rattle.std.specs.declared.ops.ControlFlow.TheVariants.{Break, Continue}
 use Rattle.number.specs.declared.fault.ReadFault.{ReadFault}
 use Rattle.sheet.specs.declared.kinds.LineKind.{LineKind}
 use Rattle.sheet.specs.declared.line.PlacedLine.{PlacedLine}
 use Rattle.sheet.specs.Fields.{values}
 use Rattle.sheet.specs.Showing.{shows}
 use Rattle.sheet.specs.Kinds.{code_of, widths}
+use Rattle.answer.specs.declared.answer.Answer.{Answer}
+use Rattle.answer.specs.declared.answer.Answer.TheVariants as answer
 use Rattle.answer.specs.Listing.{listed_text}
-use Rattle.listing.specs.declared.told.ListError.{ListError}
-use Rattle.listing.specs.declared.told.ListError.TheVariants.{OutOfMemory, Unreadable}
 
 -- what is seen of a line: its kind, the bytes of its fields, and its place
 abbrev pub Seen : Type 0
@@ -19,18 +21,12 @@ Seen = LineKind × List ℕ × ℕ
 abbrev pub line_text : ℕ → Seen → List ℕ
 line_text line seen = listed_text line seen.2 (code_of seen.0) (values (widths seen.0) 0 seen.1)
 
--- what is told in the place of a line: its text, unless memory runs out
-abbrev pub TellsLine : ℕ → Seen → Result (Option (String Global)) ListError → Type 0
-TellsLine line seen (Ok (Some text)) = string_bytes text ≡ line_text line seen
-TellsLine line seen (Ok None) = ⊥
-TellsLine line seen (Err OutOfMemory) = Unit {0}
-TellsLine line seen (Err (Unreadable l f)) = ⊥
-
 -- what is told when so many lines have been listed, and this is what the reader sees next
-abbrev pub Tells : ℕ → Result (Option Seen) ReadFault → Result (Option (String Global)) ListError → Type 0
-Tells line (Ok None) told = told ≡ Ok None
-Tells line (Err f) told = told ≡ Err (Unreadable line f)
-Tells line (Ok (Some seen)) told = TellsLine line seen told
+abbrev pub Tells : ℕ → Result (Option Seen) ReadFault → ControlFlow Answer (String Global) → Type 0
+Tells line (Ok None) told = told ≡ Break (answer.Count line)
+Tells line (Err f) told = told ≡ Break (answer.ReadRefused line f)
+Tells line (Ok (Some seen)) (Continue text) = string_bytes text ≡ line_text line seen
+Tells line (Ok (Some seen)) (Break a) = ⊥
 
 -- how many lines have been listed then
 abbrev pub count_after : ℕ → Result (Option Seen) ReadFault → ℕ

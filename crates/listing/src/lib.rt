@@ -2,6 +2,6 @@
 #![tactic(auto)]
 
 mod lister;
-mod told;
+mod listing;
 
-pub use told::{ListError, Listing};
+pub use listing::Listing;

@@ -5,11 +5,12 @@ ghost use Rattle.sheet.specs.Kinds.{widths};
 ghost use Rattle.sheet.specs.Showing.{shows, shown, line_at, place_after};
 ghost use Rattle.listing.specs.Listings.{line_text, seen_of, Tells, count_after};
 
-use super::told::{ListError, Listing};
-use answer::listed_line;
+use super::listing::Listing;
+use answer::{Answer, listed_line};
 use rows::field_at;
 use sheet::{Line, PlacedLine, Reader};
 use std::alloc::{AllocError, Global};
+use std::ops::ControlFlow;
 
 // The numbers of a line's fields, one after the other.
 fn fields_of(heap: Global, line: Line<'_>) -> Result<Vec<u64>, AllocError>
@@ -48,9 +49,9 @@ impl<'a> Listing<'a> {
         }
     }
 
-    // The text of the next line, or none at the end. At the end, and after a fault, it tells the same again.
-    pub fn next(&mut self, heap: Global) -> Result<Option<String>, ListError>
-        ensures answer { Tells self.old.line (shown self.old.reader.sheet.now (line_at self.old.reader.frame self.old.reader.place self.old.reader.sheet.now)) result }
+    // The text of the next line, or how the reading ended. At the end, and after a fault, it tells the same again.
+    pub fn next(&mut self, heap: Global) -> Result<ControlFlow<Answer, String>, AllocError>
+        ensures answer { IfOk result (Tells self.old.line (shown self.old.reader.sheet.now (line_at self.old.reader.frame self.old.reader.place self.old.reader.sheet.now))) }
         ensures count { self.new.line ≡ count_after self.old.line (shown self.old.reader.sheet.now (line_at self.old.reader.frame self.old.reader.place self.old.reader.sheet.now)) }
         ensures place { self.new.reader.place ≡ place_after self.old.reader.place (line_at self.old.reader.frame self.old.reader.place self.old.reader.sheet.now) }
         ensures same { self.new.reader.sheet.now ≡ self.old.reader.sheet.now }
@@ -59,10 +60,10 @@ impl<'a> Listing<'a> {
         match self.reader.next_line() {
             Ok(Some(placed)) => {
                 self.line = line + 1;
-                Ok(Some(text_of(heap, line, placed)?))
+                Ok(ControlFlow::Continue(text_of(heap, line, placed)?))
             }
-            Ok(None) => Ok(None),
-            Err(fault) => Err(ListError::Unreadable { line, fault }),
+            Ok(None) => Ok(ControlFlow::Break(Answer::Count { lines: line })),
+            Err(fault) => Ok(ControlFlow::Break(Answer::ReadRefused { line, fault })),
         }
     }
 }

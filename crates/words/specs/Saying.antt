@@ -190,6 +190,11 @@ asked_of (command.Opens a b) = opens a b
 asked_of (command.ListHex bytes) = list_hex (vec_items bytes)
 asked_of (command.ListFile name) = list_file (vec_items name)
 
+-- The same where a fault may stand in its place.
+abbrev pub asked : Result Command Unclear → Result Asked Unclear
+asked (Ok c) = Ok (asked_of c)
+asked (Err u) = Err u
+
 -- What the program read is what has to be read, where `shows` tells what it holds. Want of memory is the only other end.
 abbrev pub Reads : {A B : Type 0} → (A → B) → Result A LineError → Result B Unclear → Type 0
 Reads shows (Ok x) r = Ok (shows x) ≡ r

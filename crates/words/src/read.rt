@@ -1,7 +1,7 @@
 // Reads what a line says, word by word from the left.
 ghost use Rattle.std.specs.Prelude.{◌≡◌, Some, IfSome};
 ghost use Rattle.words.specs.Cutting.{texts};
-ghost use Rattle.words.specs.Saying.{Reads, order_asked, below_asked, under_asked, opens_asked, draw_asked, list_asked, asked_of, asked_by, is_note, said_by, said, said_of};
+ghost use Rattle.words.specs.Saying.{Reads, order_asked, below_asked, under_asked, opens_asked, draw_asked, list_asked, asked, asked_of, asked_by, is_note, said_by, said, said_of};
 
 use super::argument::Arguments;
 use super::cut::cut;
@@ -10,8 +10,8 @@ use super::named::{Name, Source, name_of};
 use super::unclear::{LineError, Unclear, Why};
 use std::alloc::Global;
 
-fn order(words: &[&[u8]]) -> Result<Command, LineError>
-    ensures answer { Reads asked_of result (order_asked (texts words.now)) }
+fn order(words: &[&[u8]]) -> Result<Command, Unclear>
+    ensures answer { asked result ≡ order_asked (texts words.now) }
 {
     let mut arguments = Arguments::of(words);
     let kind = arguments.order()?;
@@ -19,8 +19,8 @@ fn order(words: &[&[u8]]) -> Result<Command, LineError>
     Ok(Command::Order(kind))
 }
 
-fn below(words: &[&[u8]]) -> Result<Command, LineError>
-    ensures answer { Reads asked_of result (below_asked (texts words.now)) }
+fn below(words: &[&[u8]]) -> Result<Command, Unclear>
+    ensures answer { asked result ≡ below_asked (texts words.now) }
 {
     let mut arguments = Arguments::of(words);
     let a = arguments.role_code()?;
@@ -29,8 +29,8 @@ fn below(words: &[&[u8]]) -> Result<Command, LineError>
     Ok(Command::Below { a, b })
 }
 
-fn under(words: &[&[u8]]) -> Result<Command, LineError>
-    ensures answer { Reads asked_of result (under_asked (texts words.now)) }
+fn under(words: &[&[u8]]) -> Result<Command, Unclear>
+    ensures answer { asked result ≡ under_asked (texts words.now) }
 {
     let mut arguments = Arguments::of(words);
     let a = arguments.role_set()?;
@@ -39,8 +39,8 @@ fn under(words: &[&[u8]]) -> Result<Command, LineError>
     Ok(Command::Under { a, b })
 }
 
-fn opens(words: &[&[u8]]) -> Result<Command, LineError>
-    ensures answer { Reads asked_of result (opens_asked (texts words.now)) }
+fn opens(words: &[&[u8]]) -> Result<Command, Unclear>
+    ensures answer { asked result ≡ opens_asked (texts words.now) }
 {
     let mut arguments = Arguments::of(words);
     let set = arguments.role_set()?;
@@ -74,11 +74,11 @@ fn asked_by(heap: Global, name: Option<Name>, words: &[&[u8]]) -> Result<Command
     ensures answer { Reads asked_of result (asked_by name (texts words.now)) }
 {
     match name {
-        Some(Name::Order) => order(words),
+        Some(Name::Order) => Ok(order(words)?),
         Some(Name::Draw) => draw(heap, words),
-        Some(Name::Below) => below(words),
-        Some(Name::Under) => under(words),
-        Some(Name::Opens) => opens(words),
+        Some(Name::Below) => Ok(below(words)?),
+        Some(Name::Under) => Ok(under(words)?),
+        Some(Name::Opens) => Ok(opens(words)?),
         Some(Name::List) => list(heap, words),
         None => Err(LineError::Unclear(Unclear {
             word: 0,
