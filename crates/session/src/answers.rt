@@ -105,7 +105,7 @@ impl Session {
             Err(LineError::Unclear(unclear)) => {
                 Ok(Some(Reply::Answered(Answer::Unclear(unclear))))
             }
-            Err(LineError::OutOfMemory) => Err(AllocError),
+            Err(LineError::OutOfMemory(lack)) => Err(lack),
         }
     }
 }

@@ -199,11 +199,11 @@ asked (Err u) = Err u
 abbrev pub Reads : {A B : Type 0} → (A → B) → Result A LineError → Result B Unclear → Type 0
 Reads shows (Ok x) r = Ok (shows x) ≡ r
 Reads shows (Err (error.Unclear u)) r = Err u ≡ r
-Reads shows (Err error.OutOfMemory) r = Unit {0}
+Reads shows (Err (error.OutOfMemory lack)) r = Unit {0}
 
 -- What a line says, as the program holds it; nothing where memory ran out.
 abbrev pub said_of : Result (Option Command) LineError → Option Said
 said_of (Ok None) = Some passed
 said_of (Ok (Some c)) = Some (asks (asked_of c))
 said_of (Err (error.Unclear u)) = Some (unclear u)
-said_of (Err error.OutOfMemory) = None
+said_of (Err (error.OutOfMemory lack)) = None

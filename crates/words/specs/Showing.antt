@@ -24,5 +24,5 @@ unclear_text u = codes "word " ++ (decimal u.word ++ (codes ": " ++ reason_of u.
 
 -- Why a line could not be read.
 abbrev pub error_text : LineError → List ℕ
-error_text error.OutOfMemory = codes "out of memory"
+error_text (error.OutOfMemory lack) = codes "out of memory"
 error_text (error.Unclear u) = unclear_text u

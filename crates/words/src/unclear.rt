@@ -1,5 +1,6 @@
 // Why a line is not understood, or could not be read.
 ghost use Rattle.std.specs.Prelude.{◌≡◌, Some};
+ghost use Rattle.std.specs.Allocator.{alloc_error};
 ghost use Rattle.words.specs.Showing.{reason_of, unclear_text, error_text};
 ghost use Rattle.words.specs.declared.unclear.LineError.{LineError};
 ghost use Rattle.words.specs.declared.unclear.LineError.TheVariants as error;
@@ -60,7 +61,7 @@ impl Error for Unclear {}
 // Why a line could not be read as a command.
 #[derive(Clone, Copy, Debug, PartialEq, Eq)]
 pub enum LineError {
-    OutOfMemory,
+    OutOfMemory(AllocError),
     Unclear(Unclear),
 }
 
@@ -69,7 +70,7 @@ impl fmt::Display for LineError {
 
     fn fmt<W: fmt::Write>(&self, f: &mut fmt::Formatter<W>) -> fmt::Result {
         match self {
-            LineError::OutOfMemory => f.write_str("out of memory"),
+            LineError::OutOfMemory(_) => f.write_str("out of memory"),
             LineError::Unclear(what) => write!(f, "{what}"),
         }
     }
@@ -86,17 +87,17 @@ impl From<Unclear> for LineError {
 }
 
 impl From<AllocError> for LineError {
-    ghost from_gives = { λ _ e. e ≡ error.OutOfMemory };
+    ghost from_gives = { λ lack e. e ≡ error.OutOfMemory lack };
 
-    fn from(_error: AllocError) -> LineError {
-        LineError::OutOfMemory
+    fn from(lack: AllocError) -> LineError {
+        LineError::OutOfMemory(lack)
     }
 }
 
 impl<T: Drop> From<AllocFailed<T>> for LineError {
-    ghost from_gives = { λ _ e. e ≡ error.OutOfMemory };
+    ghost from_gives = { λ _ e. e ≡ error.OutOfMemory alloc_error };
 
-    fn from(_error: AllocFailed<T>) -> LineError {
-        LineError::OutOfMemory
+    fn from(failed: AllocFailed<T>) -> LineError {
+        LineError::OutOfMemory(AllocError::from(failed))
     }
 }
