@@ -1,7 +1,5 @@
 -- The text of an answer: the words that other programs read, and the line for a person where something was not understood.
 use Rattle.std.specs.Prelude.{ℕ, List, ◌++◌, codes, decimal}
-use Rattle.drawn.specs.Faults as drawn
-use Rattle.number.specs.Faults as number
 use Rattle.answer.specs.declared.answer.Answer.{Answer}
 use Rattle.answer.specs.declared.answer.Answer.TheVariants as answer
 use Rattle.words.specs.Showing.{unclear_text}
@@ -11,9 +9,9 @@ abbrev pub answer_text : Answer → List ℕ
 answer_text answer.Ok = codes "ok"
 answer_text answer.Yes = codes "yes"
 answer_text answer.No = codes "no"
-answer_text (answer.PairRefused fault) = codes "refused " ++ (decimal (drawn.refusal fault).number ++ (codes " pair " ++ decimal fault.pair))
-answer_text answer.NotDrawn = codes "refused " ++ (decimal 12 ++ codes " not drawn")
+answer_text (answer.PairRefused number pair) = codes "refused " ++ (decimal number ++ (codes " pair " ++ decimal pair))
+answer_text (answer.NotDrawn number) = codes "refused " ++ (decimal number ++ codes " not drawn")
 answer_text (answer.Count lines) = codes "ok " ++ decimal lines
-answer_text (answer.ReadRefused line fault) =
-    codes "refused " ++ (decimal (number.refusal fault).number ++ (codes " line " ++ (decimal line ++ (codes " byte " ++ decimal fault.byte))))
+answer_text (answer.ReadRefused number line byte) =
+    codes "refused " ++ (decimal number ++ (codes " line " ++ (decimal line ++ (codes " byte " ++ decimal byte))))
 answer_text (answer.Unclear u) = codes "? " ++ unclear_text u

@@ -2,27 +2,34 @@
 ghost use Rattle.std.specs.Prelude.{◌≡◌, Some};
 ghost use Rattle.answer.specs.Showing.{answer_text};
 
-use drawn::DrawFault;
-use number::ReadFault;
 use std::fmt;
 use words::Unclear;
 
-// The refusal of a `draw`, as `DrawFault` tells it.
-const NOT_DRAWN: u32 = 12;
-
-#[derive(Clone, Copy)]
+// What is printed: a refusal tells its number as other programs read it, whatever the number is.
+#[derive(Clone, Copy, Debug, PartialEq, Eq)]
 pub enum Answer {
     Ok,
     Yes,
     No,
-    // A pair was not drawn.
-    PairRefused(DrawFault),
+    // The pair at this place, counted from 0, was not drawn.
+    PairRefused {
+        number: u32,
+        pair: usize,
+    },
     // The order is not one that is drawn.
-    NotDrawn,
+    NotDrawn {
+        number: u32,
+    },
     // So many lines were listed.
-    Count { lines: usize },
-    // This line of a sheet, counted from 0, could not be read.
-    ReadRefused { line: usize, fault: ReadFault },
+    Count {
+        lines: usize,
+    },
+    // A line of a sheet could not be read, from this byte of the sheet on.
+    ReadRefused {
+        number: u32,
+        line: usize,
+        byte: usize,
+    },
     Unclear(Unclear),
 }
 
@@ -34,16 +41,10 @@ impl fmt::Display for Answer {
             Answer::Ok => f.write_str("ok"),
             Answer::Yes => f.write_str("yes"),
             Answer::No => f.write_str("no"),
-            Answer::PairRefused(fault) => {
-                let number = fault.number();
-                let pair = fault.pair;
-                write!(f, "refused {number} pair {pair}")
-            }
-            Answer::NotDrawn => write!(f, "refused {NOT_DRAWN} not drawn"),
+            Answer::PairRefused { number, pair } => write!(f, "refused {number} pair {pair}"),
+            Answer::NotDrawn { number } => write!(f, "refused {number} not drawn"),
             Answer::Count { lines } => write!(f, "ok {lines}"),
-            Answer::ReadRefused { line, fault } => {
-                let number = fault.number();
-                let byte = fault.byte;
+            Answer::ReadRefused { number, line, byte } => {
                 write!(f, "refused {number} line {line} byte {byte}")
             }
             Answer::Unclear(unclear) => write!(f, "? {unclear}"),

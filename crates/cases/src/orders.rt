@@ -53,7 +53,10 @@ fn draws(rt: &HostRuntime) -> io::Result<()> {
         match order.draw(&[(3, 4), (a, b)]) {
             Ok(()) => tell(rt, question, "ok")?,
             Err(fault) => {
-                let answer = Answer::PairRefused(fault);
+                let answer = Answer::PairRefused {
+                    number: fault.number(),
+                    pair: fault.pair,
+                };
                 tell(rt, question, answer.to_string(rt.alloc())?.as_str())?;
             }
         }

@@ -24,12 +24,10 @@ fn list(rt: &HostRuntime, sheet: &[u8]) -> anyhow::Result<()> {
     Ok(())
 }
 
-// The bytes of the file, if it has a name that can be written and can be read.
+// The bytes of the file, if its name is text and it can be read.
 fn contents(rt: &HostRuntime, name: &[u8]) -> Option<Vec<u8>> {
-    match str::from_utf8(name) {
-        Ok(path) => fs::read(rt, path).ok(),
-        Err(_) => None,
-    }
+    let path = str::from_utf8(name).ok()?;
+    fs::read(rt, path).ok()
 }
 
 fn list_file(rt: &HostRuntime, name: &[u8]) -> anyhow::Result<()> {

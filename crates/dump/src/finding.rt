@@ -1,4 +1,4 @@
-// The rows in use.
+// Finds an edge by its number over all locations, and a line of a shelved tree.
 ghost use Rattle.std.specs.Prelude.{◌≡◌, min, [], map, slice_index_or};
 ghost use Rattle.std.specs.List.{slice_get};
 ghost use Rattle.layout.specs.Held.{in_use};

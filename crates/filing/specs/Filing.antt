@@ -1,5 +1,5 @@
 -- Filing: when a line is in its place, when there is room for it, and the network with it.
-use Rattle.std.specs.Prelude.{ℕ, ◌+◌, ◌-◌, Bool, true, cond, ◌&&◌, ◌||◌, List, [], ◌∷◌, ◌++◌, length, Some, None, Ok, Err, Option, Result, ◌==◌, nat_le, nat_lt, slice_get, slice_index_or, slice_set, codes}
+use Rattle.std.specs.Prelude.{ℕ, ◌+◌, ◌-◌, Bool, true, cond, ◌&&◌, ◌||◌, List, [], ◌∷◌, ◌++◌, length, Ok, Err, Result, ◌==◌, nat_le, nat_lt, slice_get, slice_index_or, slice_set, codes}
 use Rattle.rows.specs.declared.row.PolicyRow.{PolicyRow}
 use Rattle.rows.specs.declared.row.GrantRow.{GrantRow}
 use Rattle.rows.specs.declared.row.LocationRow.{LocationRow}
@@ -8,6 +8,7 @@ use Rattle.rows.specs.declared.row.TemplateRow.{TemplateRow}
 use Rattle.rows.specs.declared.row.PatternRow.{PatternRow}
 use Rattle.rows.specs.declared.row.CommandRow.{CommandRow}
 use Rattle.rows.specs.declared.row.JobRow.{JobRow}
+use Rattle.rows.specs.Numbering.{next_number}
 use Rattle.layout.specs.Network.{Network, Plan, TreeLines}
 use Rattle.filing.specs.declared.decoded.Row.{Row}
 use Rattle.filing.specs.declared.decoded.Row.TheVariants.{Policy, Grant, Location, PathStep, Edge, TemplateLine, Pattern, Command, Job}
@@ -22,11 +23,6 @@ abbrev pub none_before : Before
 none_before = record { kind = 0; location = 0 }
 
 -- ---- in its place
-
--- one more than the number of the last row; 0 where there is none
-abbrev pub next_number : {X : Type 0} → (X → ℕ) → Option X → ℕ
-next_number number None = 0
-next_number number (Some row) = number row + 1
 
 -- how many paths have begun, and how many templates
 abbrev pub path_count : List PathStepRow → ℕ
@@ -137,11 +133,6 @@ behind before row = record { kind = kind_number row; location = location_after b
 -- a line out of place is told before a full table
 abbrev pub placed : Before → Network → Row → Result Before Misplaced
 placed before n row = cond (in_place before n row) (cond (has_room n row) (Ok (behind before row)) (Err Full)) (Err OutOfPlace)
-
--- what is told of it
-abbrev pub told : Result Before Misplaced → Result (Unit {0}) Misplaced
-told (Ok before) = Ok tt
-told (Err why) = Err why
 
 -- what is known then, and the network: as before, where the row is not filed
 abbrev pub before_after : Before → Result Before Misplaced → Before

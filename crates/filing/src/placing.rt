@@ -2,12 +2,12 @@
 ghost use Rattle.std.specs.Prelude.{◌≡◌, ◌-◌, Some, length, slice_get};
 ghost use Rattle.layout.specs.Network.{network, Holds};
 ghost use Rattle.filing.specs.declared.placing.Misplaced.TheVariants.{Full};
-ghost use Rattle.filing.specs.Filing.{runs_on, next_number, in_place, behind, placed, told, before_after, network_after, misplaced_words};
+ghost use Rattle.filing.specs.Filing.{runs_on, in_place, behind, placed, before_after, network_after, misplaced_words};
 
 use super::decoded::Row;
 use super::putting::put;
 use layout::{NoRoom, Tables};
-use rows::Numbered;
+use rows::next_number;
 use std::error::Error;
 use std::fmt;
 
@@ -55,16 +55,6 @@ fn runs_on(number: u32, count: usize) -> bool
 {
     let number = number as usize;
     number == count || number + 1 == count
-}
-
-// How many paths or templates have begun: one more than the number of the last row.
-fn next_number<T: Numbered>(rows: &[T]) -> usize
-    ensures answer { result ≡ next_number T.number (slice_get rows.now (length rows.now - 1)) }
-{
-    match rows.last() {
-        Some(last) => last.number() as usize + 1,
-        None => 0,
-    }
 }
 
 fn in_place(tables: &Tables, before: Before, row: Row) -> bool
@@ -126,10 +116,11 @@ impl<'a> Filing<'a> {
         Filing { tables, before }
     }
 
-    // The row goes behind the last one of its table, and an edge behind the last one of its location; or all stays as it is.
-    pub fn file(&mut self, row: Row) -> Result<(), Misplaced>
+    // The row goes behind the last one of its table, and an edge behind the last one of its location, and what is then known
+    // is answered; or all stays as it is.
+    pub fn file(&mut self, row: Row) -> Result<Before, Misplaced>
         ensures same_reference { self.new.tables.ghost_name ≡ self.old.tables.ghost_name }
-        ensures answer { result ≡ told (placed self.old.before (network self.old.tables.now) row) }
+        ensures answer { result ≡ placed self.old.before (network self.old.tables.now) row }
         ensures before { self.new.before ≡ before_after self.old.before (placed self.old.before (network self.old.tables.now) row) }
         ensures after { Holds self.new.tables.now (network_after (placed self.old.before (network self.old.tables.now) row) (network self.old.tables.now) row) }
     {
@@ -138,6 +129,6 @@ impl<'a> Filing<'a> {
         }
         put(self.tables, row)?;
         self.before = self.before.after(row);
-        Ok(())
+        Ok(self.before)
     }
 }

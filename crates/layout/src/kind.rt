@@ -28,10 +28,9 @@ impl TryFrom<u32> for TableKind {
         match number {
             0 => Ok(TableKind::Running),
             255 => Ok(TableKind::Shelf),
-            _ => match LineKind::try_from(u64::from(number)) {
-                Ok(kind) => Ok(TableKind::Lines(kind)),
-                Err(_) => Err(UnknownTable(number)),
-            },
+            _ => LineKind::try_from(u64::from(number))
+                .map(TableKind::Lines)
+                .map_err(|_| UnknownTable(number)),
         }
     }
 }

@@ -4,6 +4,7 @@ use Rattle.std.specs.declared.alloc.Global.{Global}
 use Rattle.std.specs.declared.ops.ControlFlow.{ControlFlow}
 use Rattle.std.specs.declared.ops.ControlFlow.TheVariants.{Break, Continue}
 use Rattle.number.specs.declared.fault.ReadFault.{ReadFault}
+use Rattle.number.specs.Faults.{number_of}
 use Rattle.sheet.specs.declared.kinds.LineKind.{LineKind}
 use Rattle.sheet.specs.declared.line.PlacedLine.{PlacedLine}
 use Rattle.sheet.specs.Fields.{values}
@@ -24,7 +25,7 @@ line_text line seen = listed_text line seen.2 (code_of seen.0) (values (widths s
 -- what is told when so many lines have been listed, and this is what the reader sees next
 abbrev pub Tells : ℕ → Result (Option Seen) ReadFault → ControlFlow Answer (String Global) → Type 0
 Tells line (Ok None) told = told ≡ Break (answer.Count line)
-Tells line (Err f) told = told ≡ Break (answer.ReadRefused line f)
+Tells line (Err f) told = told ≡ Break (answer.ReadRefused (number_of f.cause) line f.byte)
 Tells line (Ok (Some seen)) (Continue text) = string_bytes text ≡ line_text line seen
 Tells line (Ok (Some seen)) (Break a) = ⊥
 

@@ -63,7 +63,11 @@ impl<'a> Listing<'a> {
                 Ok(ControlFlow::Continue(text_of(heap, line, placed)?))
             }
             Ok(None) => Ok(ControlFlow::Break(Answer::Count { lines: line })),
-            Err(fault) => Ok(ControlFlow::Break(Answer::ReadRefused { line, fault })),
+            Err(fault) => Ok(ControlFlow::Break(Answer::ReadRefused {
+                number: fault.number(),
+                line,
+                byte: fault.byte,
+            })),
         }
     }
 }

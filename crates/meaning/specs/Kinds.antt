@@ -21,5 +21,5 @@ TellsKind n (Ok kind) = kind_of n ≡ Some kind
 TellsKind n (Err unknown) = (kind_of n ≡ None) × (unknown.0 ≡ n)
 
 -- a number that no kind has, in words
-abbrev pub unknown_kind : UnknownContent → List ℕ
-unknown_kind unknown = codes "no content has number " ++ decimal unknown.0
+abbrev pub unknown_words : UnknownContent → List ℕ
+unknown_words unknown = codes "no content has number " ++ decimal unknown.0

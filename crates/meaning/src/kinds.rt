@@ -1,6 +1,6 @@
 // The kinds of content, by the numbers that stand for them in a row.
 ghost use Rattle.std.specs.Prelude.{Some};
-ghost use Rattle.meaning.specs.Kinds.{TellsKind, unknown_kind};
+ghost use Rattle.meaning.specs.Kinds.{TellsKind, unknown_words};
 
 use std::error::Error;
 use std::fmt;
@@ -39,7 +39,7 @@ impl TryFrom<u32> for ContentKind {
 }
 
 impl fmt::Display for UnknownContent {
-    ghost output = { λ unknown. Some (unknown_kind unknown) };
+    ghost output = { λ unknown. Some (unknown_words unknown) };
 
     fn fmt<W: fmt::Write>(&self, f: &mut fmt::Formatter<W>) -> fmt::Result {
         write!(f, "no content has number {}", self.0)

@@ -11,6 +11,7 @@ use order::{Order, RoleSet, set_below};
 use rows::TreeLine;
 
 // A tree at the policy, whose top edges have roles of `top` only, and each of whose sets is ≤ `all`.
+#[derive_where(Clone, Copy)]
 pub struct TreePattern<'a, O> {
     pub policy: Policy<'a, O>,
     pub top: RoleSet,

@@ -40,6 +40,7 @@ impl Rule {
 }
 
 // What a tree is held to: the order of roles, a policy by its number and its least set, and the jobs that scripts may name.
+#[derive_where(Clone, Copy)]
 pub struct Policy<'a, O> {
     pub order: &'a O,
     pub number: u32,
@@ -48,6 +49,7 @@ pub struct Policy<'a, O> {
 }
 
 // The edge above the line of this row: the nearest line before it whose depth is one less.
+#[tactic(auto, unfolding(crate::specs::Breaches::last_outer))]
 fn edge_above(tree: &[TreeLine], row: usize) -> Option<usize>
     requires { row < length tree.now }
     ensures answer { result ≡ edge_above tree.now row }
@@ -95,6 +97,7 @@ impl<O: Order> Policy<'_, O> {
     }
 
     // The lowest rule that the line of this row breaks.
+    #[tactic(auto, unfolding(crate::specs::Breaches::line_breach))]
     fn line_breach(&self, tree: &[TreeLine], row: usize) -> Option<Rule>
         requires { row < length tree.now }
         ensures answer { result ≡ line_breach (O.below self.now.order.now) self.now.least self.now.jobs.now self.now.number tree.now row }
@@ -113,6 +116,7 @@ impl<O: Order> Policy<'_, O> {
 
     // The first line that breaks a rule, and the lowest rule that it breaks. Any lines may be asked about: a script that names
     // no job breaks its rule, and lines that are no tree are held to the same words.
+    #[tactic(auto, unfolding(crate::specs::Breaches::first_breach))]
     pub fn breach(&self, tree: &[TreeLine]) -> Option<Breach>
         ensures answer { result ≡ tree_breach (O.below self.now.order.now) self.now.least self.now.jobs.now self.now.number tree.now }
         ensures stands { result ≡ None → TreeObeys (O.below self.now.order.now) self.now.least self.now.jobs.now self.now.number tree.now }

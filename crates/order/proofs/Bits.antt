@@ -168,10 +168,6 @@ and_twice : (b : Bool) → (b && b) ≡ (b && true)
 and_twice true = refl
 and_twice false = refl
 
-and_never : (b : Bool) → (b && false) ≡ false
-and_never true = refl
-and_never false = refl
-
 -- `n & (n - 1)` is n without its lowest role
 lowest_cleared : (k n x : ℕ) → 0 < n → n < 2 ^ k → (has n x && has (n - 1) x) ≡ (has n x && not (eqb (count_trailing_zeros k n) x))
 lowest_cleared zero n x p h = absurd (omega arith)

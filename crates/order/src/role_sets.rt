@@ -50,6 +50,7 @@ pub fn roles_of(set: RoleSet) -> Roles
     Roles { left: set }
 }
 
+#[tactic(auto, unfolding(crate::specs::RoleSets::has))]
 fn bit(set: RoleSet, role: Role) -> bool
     requires { role < 64 }
     ensures answer { result ≡ has set role }
@@ -68,7 +69,7 @@ fn single(role: Role) -> RoleSet
 pub fn has_role(set: RoleSet, role: Role) -> bool
     ensures answer { result ≡ has set role }
 {
-    if role < 64 { bit(set, role) } else { false }
+    role < 64 && bit(set, role)
 }
 
 // The set with the role put in. A set has 64 places, so a code above 63 leaves it as it is.

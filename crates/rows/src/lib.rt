@@ -5,5 +5,5 @@ mod row;
 
 pub use row::{
     CommandRow, EdgeRow, GrantRow, JobRow, LocationRow, Numbered, PathStepRow, PatternRow,
-    PolicyRow, TemplateRow, TreeLine, field_at,
+    PolicyRow, TemplateRow, TreeLine, field_at, next_number,
 };

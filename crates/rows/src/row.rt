@@ -1,9 +1,10 @@
 // The rows that lines spell, with named fields of the right widths. A stretch that the reader handed out always decodes; of
 // any other bytes, a field is 0 where no number stands.
-ghost use Rattle.std.specs.Prelude.{◌≡◌, ℕ, ◌≤◌};
+ghost use Rattle.std.specs.Prelude.{◌≡◌, ℕ, ◌-◌, ◌≤◌, length, slice_get};
 ghost use Rattle.number.specs.declared.reading.Width.TheVariants.{Narrow, Wide};
 ghost use Rattle.number.specs.Spelling.{limit_of};
 ghost use Rattle.sheet.specs.Fields.{field_at};
+ghost use Rattle.rows.specs.Numbering.{next_number};
 ghost use Rattle.rows.specs.Decoding.{policy_row, grant_row, location_row, path_step_row, tree_line_at, edge_row, template_row, pattern_row, command_row, job_row};
 
 use number::{Width, read_number};
@@ -106,6 +107,16 @@ impl Numbered for TemplateRow {
 
     fn number(&self) -> u32 {
         self.template
+    }
+}
+
+// How many of what the rows are numbered by have begun: one more than the number of the last row, 0 where there is none.
+pub fn next_number<T: Numbered>(rows: &[T]) -> usize
+    ensures answer { result ≡ next_number T.number (slice_get rows.now (length rows.now - 1)) }
+{
+    match rows.last() {
+        Some(last) => last.number() as usize + 1,
+        None => 0,
     }
 }
 

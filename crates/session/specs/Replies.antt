@@ -44,8 +44,8 @@ yes_no false = answer.No
 abbrev pub Draws : Standing → List (ℕ × ℕ) → Answer → Standing → Type 0
 Draws (standing.Drawn o) pairs told after =
     ((told ≡ answer.Ok) × DrawnFrom pairs after)
-    ⊎ ((k : ℕ) × FirstUnknown pairs k × (told ≡ answer.PairRefused (record { pair = k })) × (after ≡ standing.Drawn o))
-Draws (standing.Rights o) pairs told after = (told ≡ answer.NotDrawn) × (after ≡ standing.Rights o)
+    ⊎ ((k : ℕ) × FirstUnknown pairs k × (told ≡ answer.PairRefused 12 k) × (after ≡ standing.Drawn o))
+Draws (standing.Rights o) pairs told after = (told ≡ answer.NotDrawn 12) × (after ≡ standing.Rights o)
 
 -- these bytes are to be listed
 abbrev pub Lists : List ℕ → Reply → Type 0

@@ -34,9 +34,12 @@ impl Standing {
         match self {
             Standing::Drawn(order) => match order.draw(pairs) {
                 Ok(()) => Answer::Ok,
-                Err(fault) => Answer::PairRefused(fault),
+                Err(fault) => Answer::PairRefused {
+                    number: fault.number(),
+                    pair: fault.pair,
+                },
             },
-            Standing::Rights(_) => Answer::NotDrawn,
+            Standing::Rights(_) => Answer::NotDrawn { number: 12 },
         }
     }
 

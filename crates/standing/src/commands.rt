@@ -47,8 +47,9 @@ fn verb_stands(names: &Sizes, verb: Verb) -> bool
                 && (pattern as usize) < names.patterns
                 && content_stands(names, content)
         }
-        Verb::Enable { path, role } => operand_stands(names.paths, path) && role < names.roles,
-        Verb::Disable { path, role } => operand_stands(names.paths, path) && role < names.roles,
+        Verb::Enable { path, role } | Verb::Disable { path, role } => {
+            operand_stands(names.paths, path) && role < names.roles
+        }
     }
 }
 

@@ -51,8 +51,7 @@ pub(crate) fn content_stands(names: &Sizes, content: Content) -> bool
     ensures answer { result ≡ content_stands names.now content }
 {
     match content {
-        Content::Tree => true,
-        Content::Number(_) => true,
+        Content::Tree | Content::Number(_) => true,
         Content::Script { job } => (job as usize) < names.jobs,
         Content::Pointer { path, location } => {
             (path as usize) < names.paths && (location as usize) < names.locations

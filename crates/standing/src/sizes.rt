@@ -4,7 +4,7 @@ ghost use Rattle.standing.specs.Sizes.{numbered_in, sizes_of};
 
 use layout::{Table, Tables};
 use order::Order;
-use rows::Numbered;
+use rows::{Numbered, next_number};
 
 // The roles of the order, and how many rows of each kind there are. A row exists where it is below its table's count and
 // below its limit, so a count that passes the limit counts as the limit.
@@ -22,14 +22,11 @@ pub struct Sizes {
     pub shelf: usize,
 }
 
-// One more than the number of the last row's, since they are numbered on from 0, and at most the limit.
+// How many have begun, and at most the limit.
 fn numbered_in<T: Numbered + Copy, const N: usize>(table: &Table<T, N>, limit: usize) -> usize
     ensures answer { (zero : _) → result ≡ numbered_in T.number zero N limit table.now }
 {
-    table
-        .in_use()
-        .last()
-        .map_or(0, |row| (row.number() as usize + 1).min(limit))
+    next_number(table.in_use()).min(limit)
 }
 
 pub fn sizes_of<O: Order>(t: &Tables) -> Sizes

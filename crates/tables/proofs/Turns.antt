@@ -20,7 +20,7 @@ use Rattle.filing.specs.Filing.{none_before, before_after, placed, filed, networ
 use Rattle.filing.proofs.Puts.{holds_own}
 use Rattle.tables.specs.declared.fault.LoadFault.{LoadFault}
 use Rattle.tables.specs.declared.fault.LoadFault.TheVariants.{Unreadable}
-use Rattle.tables.specs.Loading.{EndsAs, ReadsFrom, Reads, row_at, line_filed, line_told, and_then, loaded, sheet_loaded, Filed}
+use Rattle.tables.specs.Loading.{EndsAs, ReadsFrom, Reads, row_at, line_filed, and_then, loaded, sheet_loaded, Filed}
 use Rattle.tables.proofs.Readings.{line-here, err_line, none_line, some-line, at_length, not_both_ends, not_none_and_line, not_fault_and_line, one_line, one_fault, no_line_at_end}
 
 -- of the lines of the sheet these are left, and filing them is what is left of filing all
@@ -202,39 +202,35 @@ got sheet held line place before frame t next p s is e =
     }
 
 -- the line is refused
-fault_of : (r : Result Before LoadFault) (fault : LoadFault) → Err fault ≡ line_told r → r ≡ Err fault
-fault_of (Ok before) fault e = absurd (let z : ◌≡◌ {A = ℕ} 0 1 = cc in omega arith)
-fault_of (Err f) fault e = let same : f ≡ fault = cc in ap Err same
-
 pub line_refused : (sheet held : List ℕ) (line place : ℕ) (before : Before) (frame : Frame) (t after : Tables) (row : Row) (fault : LoadFault) (r : Result ℕ LoadFault)
     → Sofar sheet held line place before frame t → Got sheet held place frame row → r ≡ Err fault
-    → Err fault ≡ line_told (line_filed line (placed before (network t) row))
+    → Err fault ≡ line_filed line (placed before (network t) row)
     → (all : List Found) (end : Option ReadFault) → Reads sheet all end → Filed r after (length all) (sheet_loaded sheet all end)
 line_refused sheet held line place before frame t after row fault r s g answer told-fault all end reads =
     let n = next_line sheet held line place before frame t g.line s g.read all end reads in
     let told : loaded line before (network t) (row_at sheet g.line ∷ map (row_at sheet) n.left) end ≡ Err fault =
     ap (λ (x : Result Before LoadFault). and_then x (λ a. loaded (line + 1) a (filed (network t) (row_at sheet g.line)) (map (row_at sheet) n.left) end))
-    (ap (λ (x : Row). line_filed line (placed before (network t) x)) (sym g.row_is) ∙ fault_of (line_filed line (placed before (network t) row)) fault told-fault) in
+    (ap (λ (x : Row). line_filed line (placed before (network t) x)) (sym g.row_is) ∙ sym told-fault) in
     subst (Filed r after (length all)) n.same (subst (Filed r after (length all)) (sym told) answer)
 
 -- ---- the line is filed
 
 -- a line that was filed had its place and its room
-placed-of : (before : Before) (n : Network) (row : Row) (after : Before) (line : ℕ) (u : Unit {0}) (r : Result Before Misplaced) → placed before n row ≡ r
-    → Ok u ≡ line_told (line_filed line r) → after ≡ before_after before r → placed before n row ≡ Ok after
+placed-of : (before : Before) (n : Network) (row : Row) (after : Before) (line : ℕ) (u : Before) (r : Result Before Misplaced) → placed before n row ≡ r
+    → Ok u ≡ line_filed line r → after ≡ before_after before r → placed before n row ≡ Ok after
 placed-of before n row after line u (Ok b) is e a = is ∙ ap Ok (sym a)
 placed-of before n row after line u (Err why) is e a = absurd (let z : ◌≡◌ {A = ℕ} 0 1 = cc in omega arith)
 
-pub line-filed : (sheet held later : List ℕ) (line place forth : ℕ) (before after : Before) (frame then : Frame) (t u : Tables) (row : Row) (unit : Unit {0})
+pub line-filed : (sheet held later : List ℕ) (line place forth : ℕ) (before after : Before) (frame then : Frame) (t u : Tables) (row : Row) (known : Before)
     → Sofar sheet held line place before frame t → Got sheet held place frame row
-    → Ok unit ≡ line_told (line_filed line (placed before (network t) row)) → after ≡ before_after before (placed before (network t) row)
+    → Ok known ≡ line_filed line (placed before (network t) row) → after ≡ before_after before (placed before (network t) row)
     → Holds u (network_after (placed before (network t) row) (network t) row)
     → later ≡ held → forth ≡ place_after place (line_at frame place held) → then ≡ frame_after frame (line_at frame place held) → place < forth
     → Sofar sheet later (line + 1) forth after then u
-line-filed sheet held later line place forth before after frame then t u row unit s g told knows told-holds kept goes framed moves =
+line-filed sheet held later line place forth before after frame then t u row known s g told knows told-holds kept goes framed moves =
     let n = network t in
     let f = g.line in
-    let is : placed before n row ≡ Ok after = placed-of before n row after line unit (placed before n row) refl told knows in
+    let is : placed before n row ≡ Ok after = placed-of before n row after line known (placed before n row) refl told knows in
     let h2 : Holds u (filed n row) = subst (λ (x : Result Before Misplaced). Holds u (network_after x n row)) is told-holds in
     let net : network u ≡ filed n (row_at sheet f) = holds_network u (filed n row) h2 ∙ ap (filed n) g.row_is in
     let frame_is : then ≡ frame_after frame (Ok (Some f)) = framed ∙ ap (frame_after frame) g.here in

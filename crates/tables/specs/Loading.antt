@@ -52,11 +52,6 @@ abbrev pub line_filed : ℕ → Result Before Misplaced → Result Before LoadFa
 line_filed line (Ok before) = Ok before
 line_filed line (Err why) = Err (fault_at line why)
 
--- the same without what is known
-abbrev pub line_told : Result Before LoadFault → Result (Unit {0}) LoadFault
-line_told (Ok before) = Ok tt
-line_told (Err fault) = Err fault
-
 -- one line, and then the rest, unless the line has a fault
 abbrev pub and_then : Result Before LoadFault → (Before → Result Network LoadFault) → Result Network LoadFault
 and_then (Ok before) rest = rest before

@@ -6,17 +6,17 @@ ghost use Rattle.sheet.specs.Showing.{shows};
 ghost use Rattle.layout.specs.Network.{network, stored, empty, Holds};
 ghost use Rattle.filing.specs.Rows.{row_shown};
 ghost use Rattle.filing.specs.Filing.{placed, before_after, network_after};
-ghost use Rattle.tables.specs.Loading.{Reads, sheet_loaded, line_filed, line_told, Filed};
+ghost use Rattle.tables.specs.Loading.{Reads, sheet_loaded, line_filed, Filed};
 
 use super::fault::LoadFault;
 use filing::{Before, Filing, Row};
 use layout::Tables;
 use sheet::{Line, Reader};
 
-// Files one line, under its number.
-fn file_line(filing: &mut Filing<'_>, number: usize, line: Line<'_>) -> Result<(), LoadFault>
+// Files one line, under its number; what is then known of the lines before.
+fn file_line(filing: &mut Filing<'_>, number: usize, line: Line<'_>) -> Result<Before, LoadFault>
     ensures same_reference { filing.new.tables.ghost_name ≡ filing.old.tables.ghost_name }
-    ensures answer { result ≡ line_told (line_filed number (placed filing.old.before (network filing.old.tables.now) (row_shown (shows line.entry)))) }
+    ensures answer { result ≡ line_filed number (placed filing.old.before (network filing.old.tables.now) (row_shown (shows line.entry))) }
     ensures before { filing.new.before ≡ before_after filing.old.before (placed filing.old.before (network filing.old.tables.now) (row_shown (shows line.entry))) }
     ensures after { Holds filing.new.tables.now (network_after (placed filing.old.before (network filing.old.tables.now) (row_shown (shows line.entry))) (network filing.old.tables.now) (row_shown (shows line.entry))) }
 {

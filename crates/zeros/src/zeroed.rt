@@ -121,7 +121,8 @@ impl DefaultIsZero for Slot {
     ghost equal = { Prim.search rules };
 }
 
-// Its default says nothing of how long its slots are, which any row's are: so its slots are looked at one by one.
+// `==` also compares how many slots there are, which the test for zeros does not ask, so the law above fails where a list of
+// slots is of another length: the slots are looked at one by one.
 impl Zeroed for RunningRow {
     ghost zeroed = { running_zero };
 

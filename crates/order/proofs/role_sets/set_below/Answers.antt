@@ -1,13 +1,9 @@
 use Rattle.std.proofs.Common.{arith}
 use Rattle.std.proofs.lemmas.Bool.Decides.{same_from_decides, not_from_Decides}
 use Rattle.order.specs.RoleSets.{SetBelow}
-use Rattle.order.proofs.Searches.{searched_more, searched_all}
+use Rattle.order.proofs.Searches.{searched_all}
 use Rattle.order.proofs.Tests.{Decides-yes, Decides-no, Decides-set_below}
 use Rattle.order.proofs.role_sets.set_below.Goals as goal
-
-pub loop-role-preserved : goal.loop-role-preserved
-loop-role-preserved g c =
-    (tt, tt, searched_more c.loop-role.invariant.2 c.in-Some.ensures.steps (c.some_below.ensures.says.0 c.if-not-some_below.false))
 
 pub returns-then-not-some_below : goal.returns-then-not-some_below
 returns-then-not-some_below g c =
