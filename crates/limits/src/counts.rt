@@ -1,7 +1,6 @@
 // How many rows: tables that are full, and one row more.
-use super::shapes::{fill, judge};
+use super::bench::Bench;
 use super::sheets::{numbers_of, parts, written};
-use super::tells::tell_place;
 use drawn::Drawn;
 use layout::{RunningRow, Tables};
 use rows::TreeLine;
@@ -115,38 +114,41 @@ fn shelve(tables: &mut Tables, trees: usize, lines: usize) {
     }
 }
 
-fn judge_shelves(rt: &HostRuntime, tables: &mut Tables, case: &str) -> io::Result<()> {
-    let (what, shelves) = parts(case);
-    let numbers = numbers_of(rt, shelves)?;
-    let [trees, lines] = numbers.as_slice() else {
-        return println!(rt; "{what} -> not written");
-    };
-    crowd(tables);
-    shelve(tables, *trees as usize, *lines as usize);
-    tell_place::<Drawn>(rt, what, tables, Stage::Live)
-}
+impl Bench<'_> {
+    fn judge_shelves(&mut self, case: &str) -> io::Result<()> {
+        let (what, shelves) = parts(case);
+        let numbers = numbers_of(self.rt, shelves)?;
+        let [trees, lines] = numbers.as_slice() else {
+            return println!(self.rt; "{what} -> not written");
+        };
+        crowd(self.tables);
+        shelve(self.tables, *trees as usize, *lines as usize);
+        self.tell_place::<Drawn>(what, Stage::Live)
+    }
 
-fn shelves(rt: &HostRuntime, tables: &mut Tables) -> io::Result<()> {
-    if fill(tables, written(rt, FULL)?.as_slice()) {
-        for case in SHELVES.lines() {
-            judge_shelves(rt, tables, case)?;
+    fn judge_all_shelves(&mut self) -> io::Result<()> {
+        let sheet = written(self.rt, FULL)?;
+        if self.fill(sheet.as_slice()).is_ok() {
+            for case in SHELVES.lines() {
+                self.judge_shelves(case)?;
+            }
         }
+        Ok(())
     }
-    Ok(())
+
+    fn judge_all_crowded(&mut self, cases: &str) -> io::Result<()> {
+        let sheet = written(self.rt, FULL)?;
+        for case in cases.lines() {
+            let filled = self.fill(sheet.as_slice()).is_ok();
+            crowd(self.tables);
+            self.judge::<Drawn>(filled, Stage::Live, case)?;
+        }
+        Ok(())
+    }
 }
 
-fn judge_all(rt: &HostRuntime, tables: &mut Tables, cases: &str) -> io::Result<()> {
-    let sheet = written(rt, FULL)?;
-    for case in cases.lines() {
-        let filled = fill(tables, sheet.as_slice());
-        crowd(tables);
-        judge::<Drawn>(rt, tables, filled, Stage::Live, case)?;
-    }
-    Ok(())
-}
-
-pub(crate) fn run(rt: &HostRuntime, tables: &mut Tables) -> io::Result<()> {
-    judge_all(rt, tables, CASES)?;
-    judge_all(rt, tables, TREES)?;
-    shelves(rt, tables)
+pub(crate) fn run(bench: &mut Bench<'_>) -> io::Result<()> {
+    bench.judge_all_crowded(CASES)?;
+    bench.judge_all_crowded(TREES)?;
+    bench.judge_all_shelves()
 }

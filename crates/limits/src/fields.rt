@@ -1,8 +1,8 @@
 // Fields that have to be 0: those that a kind does not use, and those of rows past the last.
-use super::shapes::{DRAFT, LIVE, Start, fill, judge, write};
+use super::bench::Bench;
 use super::sheets::{numbers_of, parts, written};
+use super::starts::{DRAFT, LIVE, Start};
 use drawn::Drawn;
-use layout::Tables;
 use std::io;
 
 // What the row is, its table and number, and the fields that have to be 0.
@@ -54,31 +54,35 @@ const PAST_LIVE: &str = "\
     shelved line 1023 | 255 1023 0 5\n\
     the length of a tree past the last | 255 4294967295 3 64";
 
-// Each of the fields is 1 once, and the others are as they were.
-fn spoil(rt: &HostRuntime, tables: &mut Tables, start: Start, case: &str) -> io::Result<()> {
-    let (name, row) = parts(case);
-    let numbers = numbers_of(rt, row)?;
-    let [table, row, fields @ ..] = numbers.as_slice() else {
-        return Ok(());
-    };
-    let sheet = written(rt, start.sheet)?;
-    for field in fields {
-        let case = format!(in rt.alloc(); "{name}, field {field} | {table} {row} {field} 1")?;
-        let filled = fill(tables, sheet.as_slice()) && write(rt, tables, start.pokes)?;
-        judge::<Drawn>(rt, tables, filled, start.stage, case.as_str())?;
+impl Bench<'_> {
+    // Each of the fields is 1 once, and the others are as they were.
+    fn spoil(&mut self, start: Start, case: &str) -> io::Result<()> {
+        let (name, row) = parts(case);
+        let numbers = numbers_of(self.rt, row)?;
+        let [table, row, fields @ ..] = numbers.as_slice() else {
+            return Ok(());
+        };
+        let sheet = written(self.rt, start.sheet)?;
+        for field in fields {
+            let case = format!(in self.rt.alloc();
+                "{name}, field {field} | {table} {row} {field} 1"
+            )?;
+            let filled = self.fill(sheet.as_slice()).is_ok() && self.write(start.pokes)?;
+            self.judge::<Drawn>(filled, start.stage, case.as_str())?;
+        }
+        Ok(())
     }
-    Ok(())
+
+    fn spoil_all(&mut self, start: Start, cases: &str) -> io::Result<()> {
+        for case in cases.lines() {
+            self.spoil(start, case)?;
+        }
+        Ok(())
+    }
 }
 
-fn spoil_all(rt: &HostRuntime, tables: &mut Tables, start: Start, cases: &str) -> io::Result<()> {
-    for case in cases.lines() {
-        spoil(rt, tables, start, case)?;
-    }
-    Ok(())
-}
-
-pub(crate) fn run(rt: &HostRuntime, tables: &mut Tables) -> io::Result<()> {
-    spoil_all(rt, tables, DRAFT, UNUSED)?;
-    spoil_all(rt, tables, DRAFT, PAST)?;
-    spoil_all(rt, tables, LIVE, PAST_LIVE)
+pub(crate) fn run(bench: &mut Bench<'_>) -> io::Result<()> {
+    bench.spoil_all(DRAFT, UNUSED)?;
+    bench.spoil_all(DRAFT, PAST)?;
+    bench.spoil_all(LIVE, PAST_LIVE)
 }

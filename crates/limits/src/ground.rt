@@ -1,7 +1,7 @@
 // Policies, grants, locations, path steps and edges.
-use super::shapes::{DRAFT, judge_all};
+use super::bench::Bench;
+use super::starts::DRAFT;
 use drawn::Drawn;
-use layout::Tables;
 use std::io;
 
 const ROWS: &str = "\
@@ -71,8 +71,8 @@ const EDGES: &str = "\
     an edge's location 2 | 5 3 5 2\n\
     an edge's location 3 | 5 3 5 3";
 
-pub(crate) fn run(rt: &HostRuntime, tables: &mut Tables) -> io::Result<()> {
-    judge_all::<Drawn>(rt, tables, DRAFT, ROWS)?;
-    judge_all::<Drawn>(rt, tables, DRAFT, STEPS)?;
-    judge_all::<Drawn>(rt, tables, DRAFT, EDGES)
+pub(crate) fn run(bench: &mut Bench<'_>) -> io::Result<()> {
+    bench.judge_all::<Drawn>(DRAFT, ROWS)?;
+    bench.judge_all::<Drawn>(DRAFT, STEPS)?;
+    bench.judge_all::<Drawn>(DRAFT, EDGES)
 }

@@ -1,4 +1,5 @@
 // Loading: both sides of each limit of a sheet, and what is left of a refused one.
+use super::bench::Bench;
 use super::sheets::{parts, written};
 use super::tells::tell_refusal;
 use drawn::Drawn;
@@ -24,20 +25,6 @@ fn left(tables: &Tables) -> &'static str {
         "all blank"
     } else {
         "rows left"
-    }
-}
-
-fn try_load(rt: &HostRuntime, tables: &mut Tables, what: &str, sheet: &[u8]) -> io::Result<()> {
-    match load(Blank::new(0), tables, sheet) {
-        Ok((draft, lines)) => {
-            close(draft, tables).spend();
-            let left = left(tables);
-            println!(rt; "{what} -> ok {lines}, closed {left}")
-        }
-        Err((blank, fault)) => {
-            blank.spend();
-            tell_refusal(rt, what, fault, left(tables))
-        }
     }
 }
 
@@ -114,17 +101,34 @@ const FAULTS: &str = "\
     a 257th path step cut | 1 256 0 4 0 0 1 | 1 1 0 4 2 0\n\
     a 17th policy that falls | 1 16 0 1 1 | 1 1 0 3 0 | 1 1 0 1 1";
 
-fn try_all(rt: &HostRuntime, tables: &mut Tables, cases: &str) -> io::Result<()> {
-    for case in cases.lines() {
-        let (what, runs) = parts(case);
-        try_load(rt, tables, what, written(rt, runs)?.as_slice())?;
+impl Bench<'_> {
+    fn try_load(&mut self, what: &str, sheet: &[u8]) -> io::Result<()> {
+        match load(Blank::new(0), self.tables, sheet) {
+            Ok((draft, lines)) => {
+                close(draft, self.tables).spend();
+                let left = left(self.tables);
+                println!(self.rt; "{what} -> ok {lines}, closed {left}")
+            }
+            Err((blank, fault)) => {
+                blank.spend();
+                tell_refusal(self.rt, what, fault, left(self.tables))
+            }
+        }
     }
-    Ok(())
+
+    fn try_all(&mut self, cases: &str) -> io::Result<()> {
+        for case in cases.lines() {
+            let (what, runs) = parts(case);
+            let sheet = written(self.rt, runs)?;
+            self.try_load(what, sheet.as_slice())?;
+        }
+        Ok(())
+    }
 }
 
-pub(crate) fn run(rt: &HostRuntime, tables: &mut Tables) -> io::Result<()> {
-    try_all(rt, tables, ROOM)?;
-    try_all(rt, tables, EDGES)?;
-    try_all(rt, tables, NUMBERS)?;
-    try_all(rt, tables, FAULTS)
+pub(crate) fn run(bench: &mut Bench<'_>) -> io::Result<()> {
+    bench.try_all(ROOM)?;
+    bench.try_all(EDGES)?;
+    bench.try_all(NUMBERS)?;
+    bench.try_all(FAULTS)
 }

@@ -1,7 +1,7 @@
 // Running jobs and shelved trees.
-use super::shapes::{BASE, LIVE, MOVING, Start, judge_all};
+use super::bench::Bench;
+use super::starts::{BASE, LIVE, MOVING, Start};
 use drawn::Drawn;
-use layout::Tables;
 use shape::Stage;
 use std::io;
 
@@ -76,8 +76,8 @@ const SHELF: &str = "\
     a third tree of 2^64 - 1 lines | 255 4294967295 0 3 | 255 4294967295 3 18446744073709551615\n\
     tree 0 of 2^64 - 1 lines | 255 4294967295 1 18446744073709551615";
 
-pub(crate) fn run(rt: &HostRuntime, tables: &mut Tables) -> io::Result<()> {
-    judge_all::<Drawn>(rt, tables, IN_DRAFT, DRAFTS)?;
-    judge_all::<Drawn>(rt, tables, LIVE, RUNNING)?;
-    judge_all::<Drawn>(rt, tables, LIVE, SHELF)
+pub(crate) fn run(bench: &mut Bench<'_>) -> io::Result<()> {
+    bench.judge_all::<Drawn>(IN_DRAFT, DRAFTS)?;
+    bench.judge_all::<Drawn>(LIVE, RUNNING)?;
+    bench.judge_all::<Drawn>(LIVE, SHELF)
 }

@@ -1,8 +1,7 @@
 // Runs of rows that a sheet can bring: steps of a path, numbers of paths and templates, depths and edges.
-use super::shapes::{fill, judge};
+use super::bench::Bench;
 use super::sheets::written;
 use drawn::Drawn;
-use layout::Tables;
 use shape::Stage;
 use std::io;
 
@@ -30,17 +29,20 @@ const SHEETS: &str = "\
     1 1 0 1 1 | 1 1 0 3 0 | 1 1 0 3 0 | 2 2 1 5 0 1 0 1 0 0 0; an edge past the last of location 0 | 5 4294967295 0 1\n\
     1 1 0 1 1 | 1 1 0 3 0 | 1 1 0 3 0 | 2 2 1 5 0 1 0 1 0 0 0; edges past the last, and one that does not stand | 5 4294967295 0 1 | 5 2 0 3";
 
-fn judge_sheet(rt: &HostRuntime, tables: &mut Tables, line: &str) -> io::Result<()> {
-    let Some((runs, case)) = line.split_once(';') else {
-        return println!(rt; "{line} -> no sheet");
-    };
-    let filled = fill(tables, written(rt, runs)?.as_slice());
-    judge::<Drawn>(rt, tables, filled, Stage::Draft, case.trim())
+impl Bench<'_> {
+    fn judge_sheet(&mut self, line: &str) -> io::Result<()> {
+        let Some((runs, case)) = line.split_once(';') else {
+            return println!(self.rt; "{line} -> no sheet");
+        };
+        let sheet = written(self.rt, runs)?;
+        let filled = self.fill(sheet.as_slice()).is_ok();
+        self.judge::<Drawn>(filled, Stage::Draft, case.trim())
+    }
 }
 
-pub(crate) fn run(rt: &HostRuntime, tables: &mut Tables) -> io::Result<()> {
+pub(crate) fn run(bench: &mut Bench<'_>) -> io::Result<()> {
     for line in SHEETS.lines() {
-        judge_sheet(rt, tables, line)?;
+        bench.judge_sheet(line)?;
     }
     Ok(())
 }

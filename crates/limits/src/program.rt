@@ -1,7 +1,7 @@
 // Template lines, patterns, commands and jobs.
-use super::shapes::{DRAFT, judge_all};
+use super::bench::Bench;
+use super::starts::DRAFT;
 use drawn::Drawn;
-use layout::Tables;
 use std::io;
 
 const TEMPLATES: &str = "\
@@ -169,11 +169,11 @@ const JOBS: &str = "\
     job 7 named, and eight jobs | 9 8 0 0 | 9 8 1 0 | 9 8 2 0 | 9 4294967295 0 8 | 8 6 6 7\n\
     job 8 named, and eight jobs | 9 8 0 0 | 9 8 1 0 | 9 8 2 0 | 9 4294967295 0 8 | 8 6 6 8";
 
-pub(crate) fn run(rt: &HostRuntime, tables: &mut Tables) -> io::Result<()> {
-    judge_all::<Drawn>(rt, tables, DRAFT, TEMPLATES)?;
-    judge_all::<Drawn>(rt, tables, DRAFT, PATTERNS)?;
-    judge_all::<Drawn>(rt, tables, DRAFT, COMMANDS)?;
-    judge_all::<Drawn>(rt, tables, DRAFT, DISABLES)?;
-    judge_all::<Drawn>(rt, tables, DRAFT, WAYS)?;
-    judge_all::<Drawn>(rt, tables, DRAFT, JOBS)
+pub(crate) fn run(bench: &mut Bench<'_>) -> io::Result<()> {
+    bench.judge_all::<Drawn>(DRAFT, TEMPLATES)?;
+    bench.judge_all::<Drawn>(DRAFT, PATTERNS)?;
+    bench.judge_all::<Drawn>(DRAFT, COMMANDS)?;
+    bench.judge_all::<Drawn>(DRAFT, DISABLES)?;
+    bench.judge_all::<Drawn>(DRAFT, WAYS)?;
+    bench.judge_all::<Drawn>(DRAFT, JOBS)
 }

@@ -1,6 +1,6 @@
 // Sets and roles under the rights order: all 64 bits are roles, and the top is 63.
-use super::shapes::{BASE, LIVE, Start, judge_all};
-use layout::Tables;
+use super::bench::Bench;
+use super::starts::{BASE, LIVE, Start};
 use rights::Rights;
 use shape::Stage;
 use std::io;
@@ -65,7 +65,7 @@ const SETS: &str = "\
 const DRAWN: &str = "\
     rights: {0} on every line";
 
-pub(crate) fn run(rt: &HostRuntime, tables: &mut Tables) -> io::Result<()> {
-    judge_all::<Rights>(rt, tables, BY_RIGHTS, SETS)?;
-    judge_all::<Rights>(rt, tables, LIVE, DRAWN)
+pub(crate) fn run(bench: &mut Bench<'_>) -> io::Result<()> {
+    bench.judge_all::<Rights>(BY_RIGHTS, SETS)?;
+    bench.judge_all::<Rights>(LIVE, DRAWN)
 }

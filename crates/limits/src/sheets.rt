@@ -4,12 +4,10 @@ use std::io;
 
 // The numbers that stand in the text, one behind the other.
 pub(crate) fn numbers_of(rt: &HostRuntime, text: &str) -> io::Result<Vec<u64>> {
-    let mut numbers = Vec::new(rt.alloc());
-    for word in text.split_whitespace() {
-        if let Ok(number) = word.parse::<u64>() {
-            numbers.push(number)?;
-        }
-    }
+    let numbers = text
+        .split_whitespace()
+        .filter_map(|word| word.parse().ok())
+        .collect(rt.alloc())?;
     Ok(numbers)
 }
 
