@@ -14,57 +14,62 @@ use order::Order;
 use sheet::LineKind;
 use standing::{Fillings, Sizes, sizes_of};
 
-// Policies to edges.
-fn ground_fault(names: &Sizes, t: &Tables) -> Option<Place>
-    ensures answer { result ≡ ground_fault names.now t.now }
-{
-    placed(Lines(LineKind::Policy), table_fault(names, &t.policies))
-        .or_else(|| placed(Lines(LineKind::Grant), table_fault(names, &t.grants)))
-        .or_else(|| placed(Lines(LineKind::Location), table_fault(names, &t.locations)))
-        .or_else(|| placed(Lines(LineKind::PathStep), table_fault(names, &t.steps)))
-        .or_else(|| placed(Lines(LineKind::Edge), edges_fault(names, &t.trees)))
+// What tables are judged by: what their rows may name, and their stage.
+#[derive(Clone, Copy, Debug, PartialEq, Eq)]
+struct Judge {
+    names: Sizes,
+    stage: Stage,
 }
 
-// Templates to jobs.
-fn program_fault(names: &Sizes, t: &Tables) -> Option<Place>
-    ensures answer { result ≡ program_fault names.now t.now }
-{
-    placed(
-        Lines(LineKind::TemplateLine),
-        table_fault(names, &t.templates),
-    )
-    .or_else(|| placed(Lines(LineKind::Pattern), table_fault(names, &t.patterns)))
-    .or_else(|| placed(Lines(LineKind::Command), table_fault(names, &t.commands)))
-    .or_else(|| placed(Lines(LineKind::Job), table_fault(names, &t.jobs)))
-}
+impl Judge {
+    // Policies to edges.
+    fn ground_fault(&self, t: &Tables) -> Option<Place>
+        ensures answer { result ≡ ground_fault self.now.names t.now }
+    {
+        let names = &self.names;
+        placed(Lines(LineKind::Policy), table_fault(names, &t.policies))
+            .or_else(|| placed(Lines(LineKind::Grant), table_fault(names, &t.grants)))
+            .or_else(|| placed(Lines(LineKind::Location), table_fault(names, &t.locations)))
+            .or_else(|| placed(Lines(LineKind::PathStep), table_fault(names, &t.steps)))
+            .or_else(|| placed(Lines(LineKind::Edge), edges_fault(names, &t.trees)))
+    }
 
-// The running list and the shelf.
-fn moving_fault(names: &Sizes, t: &Tables, stage: Stage) -> Option<Place>
-    ensures answer { result ≡ moving_fault names.now t.now stage }
-{
-    let fillings = Fillings {
-        sizes: *names,
-        patterns: &t.patterns.rows,
-    };
-    let running = in_draft(stage, t.running.count, table_fault(&fillings, &t.running));
-    placed(Running, running).or_else(|| {
-        let shelf = shelf_fault(names, &t.shelf);
-        placed(Shelf, in_draft(stage, t.shelf.trees.count, shelf))
-    })
-}
+    // Templates to jobs.
+    fn program_fault(&self, t: &Tables) -> Option<Place>
+        ensures answer { result ≡ program_fault self.now.names t.now }
+    {
+        let names = &self.names;
+        placed(
+            Lines(LineKind::TemplateLine),
+            table_fault(names, &t.templates),
+        )
+        .or_else(|| placed(Lines(LineKind::Pattern), table_fault(names, &t.patterns)))
+        .or_else(|| placed(Lines(LineKind::Command), table_fault(names, &t.commands)))
+        .or_else(|| placed(Lines(LineKind::Job), table_fault(names, &t.jobs)))
+    }
 
-fn place_of(names: &Sizes, t: &Tables, stage: Stage) -> Option<Place>
-    ensures answer { result ≡ place_of names.now t.now stage }
-{
-    ground_fault(names, t)
-        .or_else(|| program_fault(names, t))
-        .or_else(|| moving_fault(names, t, stage))
-}
+    // The running list and the shelf.
+    fn moving_fault(&self, t: &Tables) -> Option<Place>
+        ensures answer { result ≡ moving_fault self.now.names t.now self.now.stage }
+    {
+        let fillings = Fillings {
+            sizes: self.names,
+            patterns: &t.patterns.rows,
+        };
+        let running = table_fault(&fillings, &t.running);
+        placed(Running, in_draft(self.stage, t.running.count, running)).or_else(|| {
+            let shelf = shelf_fault(&self.names, &t.shelf);
+            placed(Shelf, in_draft(self.stage, t.shelf.trees.count, shelf))
+        })
+    }
 
-fn first_place<O: Order>(t: &Tables, stage: Stage) -> Option<Place>
-    ensures answer { result ≡ first_place O.COUNT O.TOP t.now stage }
-{
-    place_of(&sizes_of::<O>(t), t, stage)
+    fn place_of(&self, t: &Tables) -> Option<Place>
+        ensures answer { result ≡ place_of self.now.names t.now self.now.stage }
+    {
+        self.ground_fault(t)
+            .or_else(|| self.program_fault(t))
+            .or_else(|| self.moving_fault(t))
+    }
 }
 
 // The first place where the tables of a draft or of a live network have no shape under the order; none exactly when they
@@ -76,5 +81,9 @@ pub fn shape<O: Order>(t: &Tables, stage: Stage) -> Option<Place>
     ensures holds { result ≡ None → Holds t.now (network t.now) }
 {
     sized(t);
-    first_place::<O>(t, stage)
+    let judge = Judge {
+        names: sizes_of::<O>(t),
+        stage,
+    };
+    judge.place_of(t)
 }

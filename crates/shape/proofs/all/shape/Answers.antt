@@ -1,5 +1,7 @@
-use Rattle.std.proofs.Common.{sym, ◌∙◌}
+use Rattle.std.proofs.Common.{ap, sym, ◌∙◌}
+use Rattle.standing.specs.declared.sizes.Sizes.{Sizes}
 use Rattle.standing.specs.Sizes.{sizes_of}
+use Rattle.shape.specs.Place.{place_of}
 use Rattle.shape.proofs.Packing.{shaped_holds}
 use Rattle.shape.proofs.Telling.{shape_tells}
 use Rattle.shape.proofs.all.shape.Goals as goal
@@ -8,7 +10,7 @@ pub returns : goal.returns
 returns g c =
     let size = g.O.Order.COUNT in
     let peak = g.O.Order.TOP in
-    let place = c.first_place.ensures.answer in
+    let place = c.place_of.ensures.answer ∙ ap (λ (s : Sizes). place_of s c.args.t.now c.args.stage) c.sizes_of.ensures.answer in
     let tells = shape_tells size peak c.args.t.now c.args.stage in
     record {
       place = place;
