@@ -7,3 +7,6 @@ mod lines;
 mod listed;
 
 pub use lines::{row_text, running_text, shelf_line_text, shelf_text};
+
+#[cfg(test)]
+mod tests;
