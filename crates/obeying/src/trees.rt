@@ -70,10 +70,7 @@ impl<O: Order> Policy<'_, O> {
         ensures answer { result ≡ line_below (O.below self.now.order.now) tree.now (edge_above tree.now row) (line tree.now row).set }
         ensures says { Decides result ((j : ℕ) → Above tree.now j row → SetBelow (O.below self.now.order.now) (line tree.now j).set (line tree.now row).set) }
     {
-        match edge_above(tree, row) {
-            Some(j) => set_below(self.order, tree[j].set, tree[row].set),
-            None => true,
-        }
+        edge_above(tree, row).is_none_or(|j| set_below(self.order, tree[j].set, tree[row].set))
     }
 
     // Whether the job is there, and of the policy.
