@@ -12,7 +12,7 @@ use rows::{
 };
 use std::alloc::{AllocError, Global};
 
-// A row that is written as its fields.
+// A row that is written as its fields. Rows differ in each of them, so each has a method of its own.
 pub(crate) trait Fields: Copy {
     ghost listed: { Self → List Field };
 

@@ -5,7 +5,7 @@ ghost use Rattle.layout.specs.Held.{in_use, pushed};
 use std::error::Error;
 use std::fmt;
 
-// The first `count` rows are in use. The host may write any number into the count.
+// The first `count` rows are in use. The host may write any number into the count. The memory is fixed, so it is no `Vec`.
 #[derive(Clone, Copy, Debug, PartialEq, Eq)]
 pub struct Table<T, const N: usize> {
     pub count: usize,

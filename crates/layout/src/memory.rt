@@ -9,7 +9,8 @@ use rows::{
     TreeLine,
 };
 
-// What a slot of a running job holds: the row of the pattern that filled it and 1, or 0 for none; and the value.
+// What a slot of a running job holds: the row of the pattern that filled it and 1, or 0 for none; and the value. The host holds
+// numbers, and `filling` reads them as an Option.
 #[derive(Clone, Copy, Debug, Default, PartialEq, Eq)]
 pub struct Slot {
     pub pattern: u32,

@@ -7,6 +7,7 @@ use super::held::Table;
 use super::memory::{RunningRow, Shelf, Slot, Tables};
 use rows::TreeLine;
 
+// Derived, it would tell the slots by a relation; here they have their value, which `blank` promises.
 impl Default for RunningRow {
     ghost is_default = { λ x. x ≡ running0 };
 

@@ -18,6 +18,7 @@ pub enum Content {
 }
 
 impl Content {
+    // None where the numbers mean nothing: that is the only cause, so there is no error to tell it.
     pub fn decode(kind: u32, first: u32, second: u32) -> Option<Content>
         ensures answer { result ≡ content_of kind first second }
     {

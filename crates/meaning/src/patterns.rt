@@ -31,6 +31,7 @@ pub enum Pattern {
 }
 
 impl Pattern {
+    // Here a row's numbers become a pattern, so they are told apart as numbers.
     pub fn decode(row: PatternRow) -> Option<Pattern>
         ensures answer { result ≡ pattern_of row }
     {

@@ -44,6 +44,7 @@ pub enum Verb {
     },
 }
 
+// Here a row's numbers become operands and verbs, so they are told apart as numbers.
 fn named_by(row: CommandRow) -> Option<Operand>
     ensures answer { result ≡ operand_of row }
 {

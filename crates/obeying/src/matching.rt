@@ -45,6 +45,7 @@ impl<O: Order> TreePattern<'_, O> {
         ensures answer { result ≡ lines_match (O.below self.now.policy.order.now) self.now.top self.now.all tree.now }
         ensures says { Decides result (Each (LineMatches (O.below self.now.policy.order.now) self.now.top self.now.all) line0 tree.now) }
     {
+        // By `all` the goals stayed open.
         for line in tree {
             if !self.line_matches(*line) {
                 return false;

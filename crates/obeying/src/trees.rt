@@ -56,6 +56,7 @@ fn edge_above(tree: &[TreeLine], row: usize) -> Option<usize>
     ensures says { MatchOption result ((j : ℕ) → Above tree.now j row → ⊥) (λ j. Above tree.now j row) }
 {
     let depth = tree[row].depth as u64;
+    // By `rposition` the goals stayed open.
     for k in (0..row).rev() {
         if tree[k].depth as u64 + 1 == depth {
             return Some(k);
@@ -77,6 +78,7 @@ impl<O: Order> Policy<'_, O> {
     fn has_job(&self, job: usize) -> bool
         ensures answer { result ≡ (nat_lt job (length self.now.jobs.now) && (slice_index_or self.now.jobs.now job job0).policy == self.now.number) }
     {
+        // By `is_some_and` the goal stayed open.
         match self.jobs.get(job) {
             Some(job) => job.policy == self.number,
             None => false,
@@ -120,6 +122,7 @@ impl<O: Order> Policy<'_, O> {
         ensures told { TreeObeys (O.below self.now.order.now) self.now.least self.now.jobs.now self.now.number tree.now → result ≡ None }
         ensures first { IfSome result (FirstBroken (Asks (O.below self.now.order.now) self.now.least self.now.jobs.now self.now.number tree.now) (length tree.now)) }
     {
+        // A row is asked about among the others, so it goes by its number.
         for row in 0..tree.len() {
             if let Some(rule) = self.line_breach(tree, row) {
                 return Some(Breach { row, rule });

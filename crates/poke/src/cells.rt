@@ -12,7 +12,8 @@ use rows::{
     TreeLine,
 };
 
-// A row whose numbers are counted from 0, and can be written over one by one.
+// A row whose numbers are counted from 0, and can be written over one by one. Rows differ in each number's name and width, so
+// each has a method of its own.
 pub(crate) trait Cells: Copy {
     ghost written: { Self → ℕ → ℕ → Result Self Wrong };
 

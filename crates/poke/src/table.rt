@@ -21,6 +21,7 @@ pub(crate) fn poke_table<R: Cells, const N: usize>(
             Ok(())
         }
         Row::Count => Err(Wrong::Field),
+        // After `get_mut` nothing would be known of the other rows.
         Row::At(at) if at < N => {
             table.rows[at] = table.rows[at].with_field(poke.field, poke.value)?;
             Ok(())

@@ -102,6 +102,7 @@ impl Session {
     pub fn reply(&mut self, heap: Global, line: &[u8]) -> Result<Option<Reply>, AllocError>
         ensures answer { IfOk result (λ reply. Replies self.old.order (said line.now) reply self.new.order) }
     {
+        // With `map` in place of two arms the goal stayed open.
         match read_line(heap, line) {
             Ok(None) => Ok(None),
             Ok(Some(command)) => Ok(Some(self.answer(command))),

@@ -3,7 +3,7 @@ use answer::Answer;
 use drawn::Drawn;
 use rights::Rights;
 
-// The order in force.
+// The order in force. An order's COUNT and TOP are constants of its type, so it is no `dyn`, and nothing compares or prints it.
 #[derive(Clone, Copy)]
 pub enum Standing {
     Drawn(Drawn),

@@ -26,6 +26,7 @@ where
     T::Before: Drop,
     ensures answer { result ≡ table_fault (λ b i x. T.Judged.passes names.now b i x) T.Judged.after T.Judged.first T.Zeroed.zeroed N table.now }
 {
+    // For `or_else` the closure would need its clause written out, since it is generic.
     match first_fault(names, table.in_use()) {
         Some(row) => Some(row),
         None => rest_fault(table),

@@ -1,4 +1,4 @@
-// A line of a sheet, by its kind; each case borrows the stretch of the sheet that holds its fields.
+// A line of a sheet, by its kind; each case borrows the stretch of the sheet that holds its fields, and so has arms of its own.
 ghost use Rattle.std.specs.Prelude.{◌≡◌};
 ghost use Rattle.sheet.specs.Showing.{shows};
 

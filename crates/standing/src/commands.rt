@@ -11,7 +11,7 @@ use order::in_use_of;
 use rows::CommandRow;
 use scan::Judged;
 
-// Which commands the rows before have named as continuations.
+// Which commands the rows before have named as continuations. There is no heap for a set.
 #[derive(Clone, Copy, Debug, PartialEq, Eq)]
 pub struct Named {
     pub flags: [bool; 256],
@@ -53,7 +53,7 @@ fn verb_stands(names: &Sizes, verb: Verb) -> bool
     }
 }
 
-// A fork's other continuation, 0 for the other verbs.
+// A fork's other continuation, 0 for the other verbs, as 0 stands for none in a row's own continuation.
 fn other_way(row: CommandRow) -> u32
     ensures answer { result ≡ other_way row }
 {
@@ -87,6 +87,7 @@ fn known(names: &Sizes, row: CommandRow) -> bool
     Verb::decode(row).is_some_and(|verb| verb_stands(names, verb))
 }
 
+// With `get_mut` in place of the test the goals stayed open.
 fn mark(flags: &mut [bool; 256], to: u32)
     ensures after { flags.new ≡ slice_set flags.old to true }
 {

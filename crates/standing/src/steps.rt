@@ -8,7 +8,7 @@ use order::in_use_of;
 use rows::PathStepRow;
 use scan::Judged;
 
-// How many paths there are so far, and how many steps the last of them has.
+// How many paths there are so far, and how many steps the last of them has; of templates it is the last line that counts.
 #[derive(Clone, Copy, Debug, PartialEq, Eq)]
 pub struct StepsBefore {
     pub paths: usize,

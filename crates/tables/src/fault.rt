@@ -7,7 +7,7 @@ use number::ReadFault;
 use std::error::Error;
 use std::fmt;
 
-// Lines are counted from 0.
+// Lines are counted from 0. What keeps a line from being filed does not know the line, so the two cases stand here again.
 #[derive(Clone, Copy, Debug, PartialEq, Eq)]
 pub enum LoadFault {
     // The reader cannot read the line.

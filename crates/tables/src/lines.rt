@@ -39,6 +39,7 @@ pub(crate) fn file_lines(tables: &mut Tables, sheet: &[u8]) -> Result<usize, Loa
         .map_err(|fault| LoadFault::Unreadable { line, fault })?
     {
         file_line(&mut filing, line, placed.line)?;
+        // The count is the answer, and a reader at a fault never ends, so it is no iterator to enumerate.
         line += 1;
     }
     Ok(line)

@@ -25,6 +25,7 @@ fn hex_byte(high: u8, low: u8) -> Option<u8>
     Some(high * 16 + low)
 }
 
+// No bytes where the word spells none: why, and at which place of the line, is for the caller to say.
 pub(crate) fn hex_bytes(heap: Global, word: &[u8]) -> Result<Option<Vec<u8>>, AllocError>
     ensures answer { IfOk result (λ read. option_map vec_items read ≡ hex_bytes word.now) }
 {

@@ -2,7 +2,7 @@
 ghost use Rattle.std.specs.Prelude.{◌≡◌};
 ghost use Rattle.words.specs.Spelling.{numeral, at_most, role, role_code, roles_in, role_set, one_role};
 
-// The number that a word of decimal digits spells, if it is not larger than `most`.
+// The number that a word of decimal digits spells, if it is not larger than `most`. (`parse` would also take a sign.)
 fn number(word: &[u8], most: u32) -> Option<u32>
     ensures answer { result ≡ at_most most (numeral word.now) }
 {
