@@ -1,5 +1,6 @@
 // The rows that lines spell, with named fields of the right widths. A stretch that the reader handed out always decodes; of
-// any other bytes, a field is 0 where no number stands, so a decode is no `From`. Kinds are numbers here, as the host holds them.
+// any other bytes, a field is 0 where no number stands, so a decode is no `From`. Kinds are numbers here, as the host holds
+// them.
 ghost use Rattle.std.specs.Prelude.{◌≡◌, ℕ, ◌-◌, ◌≤◌, length, slice_get};
 ghost use Rattle.number.specs.declared.reading.Width.TheVariants.{Narrow, Wide};
 ghost use Rattle.number.specs.Spelling.{limit_of};
