@@ -68,7 +68,11 @@ fn grow(rows: &[RoleSet; ROLES], a: Role, b: Role) -> [RoleSet; ROLES]
     ensures answer { (x : ℕ) → x < 32 → slice_index result x ≡ grown_row rows.now a b x }
 {
     let above = rows[b as usize];
-    rows.map(|row| grown(row, a, above))
+    let mut all = *rows;
+    for row in &mut all {
+        *row = grown(*row, a, above);
+    }
+    all
 }
 
 impl Drawn {
