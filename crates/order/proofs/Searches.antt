@@ -1,7 +1,6 @@
 -- A search through the roles of a set: those taken out so far have the property, the others are still there.
-use Rattle.std.proofs.Common.{◌≡◌, ℕ, false, not, eqb, sym, ◌∙◌, subst, ⊎_elim}
-use Rattle.std.proofs.lemmas.Bool.{and_parts, and_cases, both_ways, eqb-true, not-false}
-use Rattle.order.specs.RoleSets.{has, In, Part, Lowest}
+use Rattle.std.proofs.Common.{◌≡◌, ℕ, false, sym, subst}
+use Rattle.order.specs.RoleSets.{has, In, Part}
 use Rattle.order.proofs.Bits.{has-none}
 
 pub record Searched (P : ℕ → Type 0) (set left : ℕ) : Type 0 where

@@ -117,6 +117,7 @@ pub fn opens<O: Order>(order: &O, set: RoleSet, roles: RoleSet) -> bool
 
 // Whether the set can stand in a table where the roles are the first `count` codes: it is not empty, and each of its roles
 // is one of them.
+#[tactic(auto, using(crate::proofs::Uses::uses_shift))]
 pub fn in_use_of(count: Role, set: RoleSet) -> bool
     ensures answer { result ≡ in_use_of count set }
     ensures roles { result ≡ in_use count set }
