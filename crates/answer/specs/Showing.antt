@@ -2,7 +2,14 @@
 use Rattle.std.specs.Prelude.{ℕ, List, ◌++◌, codes, decimal}
 use Rattle.answer.specs.declared.answer.Answer.{Answer}
 use Rattle.answer.specs.declared.answer.Answer.TheVariants as answer
+use Rattle.answer.specs.declared.answer.State.{State}
+use Rattle.answer.specs.declared.answer.State.TheVariants as state
 use Rattle.words.specs.Showing.{unclear_text}
+
+-- The names of the states.
+abbrev pub state_text : State → List ℕ
+state_text state.Blank = codes "blank"
+state_text state.Draft = codes "draft"
 
 -- The line that is printed, without its end.
 abbrev pub answer_text : Answer → List ℕ
@@ -14,4 +21,6 @@ answer_text (answer.NotDrawn number) = codes "refused " ++ (decimal number ++ co
 answer_text (answer.Count lines) = codes "ok " ++ decimal lines
 answer_text (answer.ReadRefused number line byte) =
     codes "refused " ++ (decimal number ++ (codes " line " ++ (decimal line ++ (codes " byte " ++ decimal byte))))
+answer_text (answer.LineRefused number line) = codes "refused " ++ (decimal number ++ (codes " line " ++ decimal line))
+answer_text (answer.NotNow s) = codes "? not now: " ++ state_text s
 answer_text (answer.Unclear u) = codes "? " ++ unclear_text u

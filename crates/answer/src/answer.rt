@@ -1,9 +1,27 @@
 // How an answer is written: one line, without its end.
 ghost use Rattle.std.specs.Prelude.{◌≡◌, Some};
-ghost use Rattle.answer.specs.Showing.{answer_text};
+ghost use Rattle.answer.specs.Showing.{state_text, answer_text};
 
 use std::fmt;
 use words::Unclear;
+
+// What a session has of a network: none, or one that is loaded.
+#[derive(Clone, Copy, Debug, PartialEq, Eq)]
+pub enum State {
+    Blank,
+    Draft,
+}
+
+impl fmt::Display for State {
+    ghost output = { λ state. Some (state_text state) };
+
+    fn fmt<W: fmt::Write>(&self, f: &mut fmt::Formatter<W>) -> fmt::Result {
+        f.write_str(match self {
+            State::Blank => "blank",
+            State::Draft => "draft",
+        })
+    }
+}
 
 // What is printed: a refusal tells its number as other programs read it, whatever the number is.
 #[derive(Clone, Copy, Debug, PartialEq, Eq)]
@@ -20,7 +38,7 @@ pub enum Answer {
     NotDrawn {
         number: u32,
     },
-    // So many lines were listed.
+    // So many lines were listed, or loaded.
     Count {
         lines: usize,
     },
@@ -30,6 +48,13 @@ pub enum Answer {
         line: usize,
         byte: usize,
     },
+    // A line of a sheet was read and could not be loaded.
+    LineRefused {
+        number: u32,
+        line: usize,
+    },
+    // The command does not fit what the session has.
+    NotNow(State),
     Unclear(Unclear),
 }
 
@@ -47,6 +72,8 @@ impl fmt::Display for Answer {
             Answer::ReadRefused { number, line, byte } => {
                 write!(f, "refused {number} line {line} byte {byte}")
             }
+            Answer::LineRefused { number, line } => write!(f, "refused {number} line {line}"),
+            Answer::NotNow(state) => write!(f, "? not now: {state}"),
             Answer::Unclear(unclear) => write!(f, "? {unclear}"),
         }
     }

@@ -4,5 +4,5 @@
 mod answer;
 mod listed;
 
-pub use answer::Answer;
+pub use answer::{Answer, State};
 pub use listed::listed_line;

@@ -1,3 +1,4 @@
+pub mod Edges
+pub mod Numbered
 pub mod Slots
-pub mod Found
 pub mod Roles

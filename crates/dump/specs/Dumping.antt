@@ -1,15 +1,26 @@
--- The lines of a dump, each without its end. What is shown of the tables is the network that they hold.
-use Rattle.std.specs.Prelude.{ℕ, ◌+◌, ◌-◌, cond, List, [], ◌∷◌, ◌++◌, map, None, codes, decimal, Option, ◌==◌, slice_index_or}
-use Rattle.std.specs.List.{slice_get}
-use Rattle.std.specs.Option.{option_map}
+-- The lines of a dump, each without its end. What is shown of the tables is the network that they hold, and of the shelf also how
+-- many lines each tree has by its length, whatever the host has written there.
+use Rattle.std.specs.Prelude.{ℕ, ◌+◌, ◌-◌, cond, List, [], ◌∷◌, ◌++◌, map, take, drop, codes, decimal, ◌==◌, string_bytes, vec_items, String, Vec}
+use Rattle.std.specs.declared.alloc.Global.{Global}
 use Rattle.rows.specs.declared.row.EdgeRow.{EdgeRow}
 use Rattle.rows.specs.declared.row.TreeLine.{TreeLine}
 use Rattle.layout.specs.declared.memory.RunningRow.{RunningRow}
 use Rattle.layout.specs.declared.memory.Slot.{Slot}
-use Rattle.layout.specs.Network.{Network, TreeLines}
+use Rattle.layout.specs.declared.memory.Tables.{Tables}
+use Rattle.layout.specs.Held.{in_use}
+use Rattle.layout.specs.Network.{Plan, TreeLines, network}
 use Rattle.dump.specs.declared.field.Field.{Field}
 use Rattle.dump.specs.Listed.{policy_fields, grant_fields, location_fields, step_fields, line_fields, edge_fields, template_fields, pattern_fields, command_fields, job_fields, running_fields}
 use Rattle.dump.specs.Texts.{fields_text}
+
+-- What lines say.
+abbrev pub texts : Vec (String Global) Global → List (List ℕ)
+texts lines = map string_bytes (vec_items lines)
+
+-- The text of each row, by its number; the first has this number.
+abbrev pub numbered : {R : Type 0} → (ℕ → R → List ℕ) → ℕ → List R → List (List ℕ)
+numbered text i [] = []
+numbered text i (r ∷ rs) = text i r ∷ numbered text (i + 1) rs
 
 -- ---- the tables
 
@@ -17,23 +28,25 @@ use Rattle.dump.specs.Texts.{fields_text}
 abbrev pub row_line : {R : Type 0} → (R → List Field) → ℕ → ℕ → R → List ℕ
 row_line fields table row r = codes "table " ++ (decimal table ++ (codes " row " ++ (decimal row ++ (codes ":" ++ fields_text (fields r)))))
 
+-- The lines of a table, rows from 0.
+abbrev pub table_lines : {R : Type 0} → (R → List Field) → ℕ → List R → List (List ℕ)
+table_lines fields table rows = numbered (row_line fields table) 0 rows
+
 -- The edges of all locations, of which the first is `l`.
 abbrev pub edges_from : ℕ → List TreeLines → List EdgeRow
 edges_from l [] = []
 edges_from l (tree ∷ trees) = map (λ line. record { location = l; line = line }) tree ++ edges_from (l + 1) trees
 
--- The line of a row, if it is in use.
-abbrev pub row_text : Network → ℕ → ℕ → Option (List ℕ)
-row_text n table row =
-    cond (table == 1) (option_map (row_line policy_fields table row) (slice_get n.plan.policies row))
-    (cond (table == 2) (option_map (row_line grant_fields table row) (slice_get n.plan.grants row))
-    (cond (table == 3) (option_map (row_line location_fields table row) (slice_get n.plan.locations row))
-    (cond (table == 4) (option_map (row_line step_fields table row) (slice_get n.plan.steps row))
-    (cond (table == 5) (option_map (row_line edge_fields table row) (slice_get (edges_from 0 n.trees) row))
-    (cond (table == 6) (option_map (row_line template_fields table row) (slice_get n.plan.templates row))
-    (cond (table == 7) (option_map (row_line pattern_fields table row) (slice_get n.plan.patterns row))
-    (cond (table == 8) (option_map (row_line command_fields table row) (slice_get n.plan.commands row))
-    (cond (table == 9) (option_map (row_line job_fields table row) (slice_get n.plan.jobs row)) None))))))))
+-- What stands before the edges, and what behind them.
+abbrev pub lines_before : Plan → List (List ℕ)
+lines_before p =
+    table_lines policy_fields 1 p.policies
+    ++ (table_lines grant_fields 2 p.grants ++ (table_lines location_fields 3 p.locations ++ table_lines step_fields 4 p.steps))
+
+abbrev pub lines_behind : Plan → List (List ℕ)
+lines_behind p =
+    table_lines template_fields 6 p.templates
+    ++ (table_lines pattern_fields 7 p.patterns ++ (table_lines command_fields 8 p.commands ++ table_lines job_fields 9 p.jobs))
 
 -- ---- the running list
 
@@ -51,26 +64,28 @@ slots_text k (s ∷ slots) = slot_text k s ++ slots_text (k + 1) slots
 abbrev pub running_line : ℕ → RunningRow → List ℕ
 running_line position r = codes "running " ++ (decimal position ++ (codes ":" ++ (fields_text (running_fields r) ++ slots_text 0 r.slots)))
 
-abbrev pub running_text : Network → ℕ → Option (List ℕ)
-running_text n position = option_map (running_line position) (slice_get n.running position)
-
 -- ---- the shelf
 
--- How many lines trees of these lengths have together.
-abbrev pub lines_in : List ℕ → ℕ
-lines_in [] = 0
-lines_in (n ∷ ns) = n + lines_in ns
-
--- `shelf T: N`, from the lengths as they are written
+-- `shelf T: N`
 abbrev pub shelf_line : ℕ → ℕ → List ℕ
 shelf_line tree lines = codes "shelf " ++ (decimal tree ++ (codes ": " ++ decimal lines))
-
-abbrev pub shelf_text : List ℕ → ℕ → Option (List ℕ)
-shelf_text lengths tree = option_map (shelf_line tree) (slice_get lengths tree)
 
 -- `shelf T line I: D LABEL SET KIND FIRST SECOND`
 abbrev pub shelved_line : ℕ → ℕ → TreeLine → List ℕ
 shelved_line tree line r = codes "shelf " ++ (decimal tree ++ (codes " line " ++ (decimal line ++ (codes ":" ++ fields_text (line_fields r)))))
 
-abbrev pub shelf_line_text : Network → ℕ → ℕ → Option (List ℕ)
-shelf_line_text n tree line = option_map (shelved_line tree line) (slice_get (slice_index_or n.shelf tree []) line)
+-- Trees of these lengths, one behind the other, of which the first has this number.
+abbrev pub shelf_lines : ℕ → List ℕ → TreeLines → List (List ℕ)
+shelf_lines tree [] lines = []
+shelf_lines tree (n ∷ ns) lines = shelf_line tree n ∷ (numbered (shelved_line tree) 0 (take n lines) ++ shelf_lines (tree + 1) ns (drop n lines))
+
+-- ---- all of them
+
+-- What comes behind the tables of the sheet.
+abbrev pub lines_last : Tables → List (List ℕ)
+lines_last t = numbered running_line 0 (network t).running ++ (shelf_lines 0 (in_use t.shelf.trees) t.shelf.lines ++ (codes "end" ∷ []))
+
+abbrev pub dump_lines : Tables → List (List ℕ)
+dump_lines t =
+    lines_before (network t).plan
+    ++ (table_lines edge_fields 5 (edges_from 0 (network t).trees) ++ (lines_behind (network t).plan ++ lines_last t))

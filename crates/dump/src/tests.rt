@@ -1,5 +1,5 @@
 // The lines of a small house, as they are printed.
-use super::{row_text, running_text, shelf_line_text, shelf_text};
+use super::dump;
 use layout::{RunningRow, Tables, blank};
 use rows::{GrantRow, PolicyRow, TreeLine};
 use std::test::Fail;
@@ -13,7 +13,7 @@ const EDGE: TreeLine = TreeLine {
     second: 0,
 };
 
-// One policy, one grant, an edge at location 0, a job that runs there, and a shelved tree of one line.
+// One policy, one grant, an edge at each of two locations, a job that runs there, and a shelved tree of one line.
 fn house() -> Tables {
     let mut tables = blank();
     tables.policies.rows[0] = PolicyRow { least: 5 };
@@ -27,6 +27,8 @@ fn house() -> Tables {
     tables.grants.count = 1;
     tables.trees[0].rows[0] = EDGE;
     tables.trees[0].count = 1;
+    tables.trees[2].rows[0] = EDGE;
+    tables.trees[2].count = 1;
     tables.running.rows[0] = RunningRow {
         location: 0,
         roles: 1,
@@ -42,24 +44,23 @@ fn house() -> Tables {
     tables
 }
 
+const LINES: [&str; 8] = [
+    "table 1 row 0: {0,2}",
+    "table 2 row 0: 0 1 {0,1} 4",
+    "table 5 row 0: 0 1 7 {0,1} 1 1900 0",
+    "table 5 row 1: 2 1 7 {0,1} 1 1900 0",
+    "running 0: 0 {0} 9 slot 2 pattern 3 value 77",
+    "shelf 0: 1",
+    "shelf 0 line 0: 1 7 {0,1} 1 1900 0",
+    "end",
+];
+
 #[test]
 fn each_line_is_written(rt: HostRuntime) -> Result<(), Fail> {
-    let alloc = rt.alloc();
-    let tables = house();
-    let policy = row_text(alloc, &tables, 1, 0)?.unwrap_or(String::new(alloc));
-    assert_eq!(rt; policy.as_str(), "table 1 row 0: {0,2}");
-    let grant = row_text(alloc, &tables, 2, 0)?.unwrap_or(String::new(alloc));
-    assert_eq!(rt; grant.as_str(), "table 2 row 0: 0 1 {0,1} 4");
-    let edge = row_text(alloc, &tables, 5, 0)?.unwrap_or(String::new(alloc));
-    assert_eq!(rt; edge.as_str(), "table 5 row 0: 0 1 7 {0,1} 1 1900 0");
-    let job = running_text(alloc, &tables, 0)?.unwrap_or(String::new(alloc));
-    assert_eq!(rt;
-        job.as_str(),
-        "running 0: 0 {0} 9 slot 2 pattern 3 value 77"
-    );
-    let tree = shelf_text(alloc, &tables, 0)?.unwrap_or(String::new(alloc));
-    assert_eq!(rt; tree.as_str(), "shelf 0: 1");
-    let line = shelf_line_text(alloc, &tables, 0, 0)?.unwrap_or(String::new(alloc));
-    assert_eq!(rt; line.as_str(), "shelf 0 line 0: 1 7 {0,1} 1 1900 0");
+    let lines = dump(rt.alloc(), &house())?;
+    assert_eq!(rt; lines.len(), LINES.len());
+    for (line, wanted) in lines.iter().zip(LINES) {
+        assert_eq!(rt; line.as_str(), wanted);
+    }
     Ok(())
 }

@@ -1,16 +1,28 @@
--- What a line of input calls for, and which order is in force after it.
-use Rattle.std.specs.Prelude.{◌≡◌, ℕ, Bool, true, false, ◌⊎◌, List, [], Some, None, Option, vec_items}
+-- What a line of input calls for, and what the session and the tables are after it.
+use Rattle.std.specs.Prelude.{◌≡◌, ℕ, Bool, true, false, ◌⊎◌, List, [], Ok, Err, Some, None, Option, Result}
+use Rattle.std.specs.declared.alloc.AllocError.{AllocError}
+use Rattle.layout.specs.declared.memory.Tables.{Tables}
+use Rattle.poke.specs.declared.wrong.Wrong.{Wrong}
+use Rattle.poke.specs.declared.wrong.Wrong.TheVariants as wrong
+use Rattle.poke.specs.Poking.{poked}
 use Rattle.order.specs.RoleSets.{set_below, opens_to}
 use Rattle.drawn.specs.Draws.{Least, FirstUnknown}
 use Rattle.drawn.specs.Rows.{rows_below}
 use Rattle.rights.specs.Bringing.{rights_below}
 use Rattle.answer.specs.declared.answer.Answer.{Answer}
 use Rattle.answer.specs.declared.answer.Answer.TheVariants as answer
+use Rattle.answer.specs.declared.answer.State.TheVariants as state
+use Rattle.words.specs.declared.unclear.Unclear.{Unclear}
+use Rattle.words.specs.declared.unclear.Why.TheVariants.{NoSuchTable, NoSuchRow, NoSuchField, TooWide}
 use Rattle.words.specs.declared.line.OrderKind.{OrderKind}
 use Rattle.words.specs.declared.line.OrderKind.TheVariants as kind
-use Rattle.words.specs.Saying.{Asked, Said}
-use Rattle.words.specs.Saying.Asked.{order, draw, below, under, opens, list_hex, list_file}
+use Rattle.words.specs.Saying.{Asked, Given, Said, given}
+use Rattle.words.specs.Saying.Asked.{order, draw, below, under, opens, list, load, close, dump, poke}
 use Rattle.words.specs.Saying.Said.{passed, asks, unclear}
+use Rattle.session.specs.Holding.{ClosesHere, StartsOver}
+use Rattle.session.specs.declared.holding.Holding.{Holding}
+use Rattle.session.specs.declared.holding.Holding.TheVariants as holding
+use Rattle.session.specs.declared.standing.Session.{Session}
 use Rattle.session.specs.declared.standing.Reply.{Reply}
 use Rattle.session.specs.declared.standing.Reply.TheVariants as reply
 use Rattle.session.specs.declared.standing.Standing.{Standing}
@@ -47,31 +59,69 @@ Draws (standing.Drawn o) pairs told after =
     ⊎ ((k : ℕ) × FirstUnknown pairs k × (told ≡ answer.PairRefused 12 k) × (after ≡ standing.Drawn o))
 Draws (standing.Rights o) pairs told after = (told ≡ answer.NotDrawn 12) × (after ≡ standing.Rights o)
 
--- these bytes are to be listed
-abbrev pub Lists : List ℕ → Reply → Type 0
-Lists bytes (reply.Answered told) = ⊥
-Lists bytes (reply.List sheet) = vec_items sheet ≡ bytes
-Lists bytes (reply.ListFile name) = ⊥
+-- the sheet that is given so is to be listed
+abbrev pub ToList : Given → Reply → Type 0
+ToList g (reply.Answered told) = ⊥
+ToList g (reply.List sheet) = given sheet ≡ g
+ToList g (reply.Load sheet) = ⊥
+ToList g reply.Dump = ⊥
 
--- the file of this name is to be listed
-abbrev pub ListsFile : List ℕ → Reply → Type 0
-ListsFile bytes (reply.Answered told) = ⊥
-ListsFile bytes (reply.List sheet) = ⊥
-ListsFile bytes (reply.ListFile name) = vec_items name ≡ bytes
+-- the sheet that is given so is to be loaded
+abbrev pub ToLoad : Given → Reply → Type 0
+ToLoad g (reply.Answered told) = ⊥
+ToLoad g (reply.List sheet) = ⊥
+ToLoad g (reply.Load sheet) = given sheet ≡ g
+ToLoad g reply.Dump = ⊥
 
--- what a command calls for, and which order is in force after it
-abbrev pub Answers : Standing → Asked → Reply → Standing → Type 0
-Answers before (order kind) r after = (r ≡ reply.Answered answer.Ok) × FreshOf kind after
-Answers before (draw pairs) r after = (told : Answer) × (r ≡ reply.Answered told) × Draws before pairs told after
-Answers before (below a b) r after = (r ≡ reply.Answered (yes_no (meaning before a b))) × (after ≡ before)
-Answers before (under a b) r after = (r ≡ reply.Answered (yes_no (set_below (meaning before) a b))) × (after ≡ before)
-Answers before (opens set roles) r after = (r ≡ reply.Answered (yes_no (opens_to (meaning before) set roles))) × (after ≡ before)
-Answers before (list_hex bytes) r after = Lists bytes r × (after ≡ before)
-Answers before (list_file name) r after = ListsFile name r × (after ≡ before)
+-- a sheet is to be loaded only into blank tables
+abbrev pub CallsToLoad : Holding → Given → Reply → Type 0
+CallsToLoad (holding.Blank b) g r = ToLoad g r
+CallsToLoad (holding.Draft d) g r = r ≡ reply.Answered (answer.NotNow state.Draft)
+
+-- The word of the command that is wrong: the table is word 1, the row 2, the field 3 and the value 4.
+abbrev pub word_of : Wrong → Unclear
+word_of wrong.Table = record { word = 1; why = NoSuchTable }
+word_of wrong.Row = record { word = 2; why = NoSuchRow }
+word_of wrong.Field = record { word = 3; why = NoSuchField }
+word_of wrong.Value = record { word = 4; why = TooWide }
+
+abbrev pub poke_answer : Result (Unit {0}) Wrong → Answer
+poke_answer (Ok done) = answer.Ok
+poke_answer (Err w) = answer.Unclear (word_of w)
+
+-- the session and the tables are as they were
+pub record Same (before : Session) (t : Tables) (after : Session) (u : Tables) : Type 0 where
+  pub session : after ≡ before
+  pub tables : u ≡ t
+
+-- the order may be another, and nothing else
+pub record Untouched (before : Session) (t : Tables) (after : Session) (u : Tables) : Type 0 where
+  pub holding : after.holding ≡ before.holding
+  pub tables : u ≡ t
+
+-- what a command calls for, and the session and the tables after it
+abbrev pub Answers : Session → Tables → Asked → Reply → Session → Tables → Type 0
+Answers before t (order kind) r after u = (r ≡ reply.Answered answer.Ok) × FreshOf kind after.order × StartsOver before.holding after.holding u
+Answers before t (draw pairs) r after u = (told : Answer) × (r ≡ reply.Answered told) × Draws before.order pairs told after.order × Untouched before t after u
+Answers before t (below a b) r after u = (r ≡ reply.Answered (yes_no (meaning before.order a b))) × Same before t after u
+Answers before t (under a b) r after u = (r ≡ reply.Answered (yes_no (set_below (meaning before.order) a b))) × Same before t after u
+Answers before t (opens set roles) r after u = (r ≡ reply.Answered (yes_no (opens_to (meaning before.order) set roles))) × Same before t after u
+Answers before t (list g) r after u = ToList g r × Same before t after u
+Answers before t (load g) r after u = CallsToLoad before.holding g r × Same before t after u
+Answers before t close r after u =
+    (told : Answer) × (r ≡ reply.Answered told) × (after.order ≡ before.order) × ClosesHere before.holding t told after.holding u
+Answers before t dump r after u = (r ≡ reply.Dump) × Same before t after u
+Answers before t (poke table row field value) r after u =
+    (r ≡ reply.Answered (poke_answer (poked t table row field value).0)) × (after ≡ before) × (u ≡ (poked t table row field value).1)
 
 -- what a line calls for: nothing where it is passed over
-abbrev pub Replies : Standing → Said → Option Reply → Standing → Type 0
-Replies before passed r after = (r ≡ None) × (after ≡ before)
-Replies before (asks asked) None after = ⊥
-Replies before (asks asked) (Some r) after = Answers before asked r after
-Replies before (unclear why) r after = (r ≡ Some (reply.Answered (answer.Unclear why))) × (after ≡ before)
+abbrev pub Replies : Session → Tables → Said → Option Reply → Session → Tables → Type 0
+Replies before t passed r after u = (r ≡ None) × Same before t after u
+Replies before t (asks asked) None after u = ⊥
+Replies before t (asks asked) (Some r) after u = Answers before t asked r after u
+Replies before t (unclear why) r after u = (r ≡ Some (reply.Answered (answer.Unclear why))) × Same before t after u
+
+-- want of memory leaves all as it was
+abbrev pub Turns : Session → Tables → Said → Result (Option Reply) AllocError → Session → Tables → Type 0
+Turns before t says (Ok r) after u = Replies before t says r after u
+Turns before t says (Err lack) after u = Same before t after u

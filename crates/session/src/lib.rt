@@ -1,7 +1,8 @@
-// A console session: the order in force, and what each line of input is answered.
+// A console session: the order in force, what it has of a network, and what each line of input is answered.
 #![tactic(auto)]
 
 mod answers;
+mod holding;
 mod standing;
 
 pub use standing::{Reply, Session};

@@ -1,12 +1,12 @@
 -- What is written by the rules is read back.
-use Rattle.std.proofs.Common.{◌≡◌, ℕ, ◌^◌, ◌<◌, Bool, true, false, not, ◌==◌, filter, List, [], ◌∷◌, ◌++◌, length, Some, decimal, refl, ap, ◌∙◌, arith, rules}
+use Rattle.std.proofs.Common.{◌≡◌, ℕ, ◌^◌, ◌<◌, ◌≤◌, Bool, true, false, not, ◌==◌, filter, List, [], ◌∷◌, ◌++◌, length, Some, decimal, refl, ap, ◌∙◌, arith, rules}
 use Rattle.std.specs.List.{AllByRecursion, slice_split, onto_first}
 use Rattle.std.specs.Str.{all_ascii_digits}
 use Rattle.std.proofs.lemmas.Fmt.{decimal_nonempty, digits_decimal, digits_value-decimal}
 use Rattle.std.proofs.lemmas.Str.Parse.{IsNumeralModel, numerals_by_weight, tells_all_ascii_digits}
 use Rattle.std.proofs.lemmas.Bool.{cond-true, cond-false, cond_both, le-leb, ne_eqb, false≢true}
 use Rattle.words.specs.Cutting.{is_blank}
-use Rattle.words.specs.Laws.{CodesReadBack, Word, spaced, LinesHoldWords, WordsReadBack}
+use Rattle.words.specs.Laws.{NumbersReadBack, Word, spaced, LinesHoldWords, WordsReadBack}
 use Rattle.words.specs.Spelling.{worth, numeral, at_most}
 
 own : IsNumeralModel (λ ds. all_ascii_digits ds ≡ true) worth
@@ -17,11 +17,13 @@ unfolding numeral
 numeral-is [] some all = absurd (omega arith)
 numeral-is (d ∷ ds) some all = cond-true _ _ _ all
 
-pub codes_read_back : CodesReadBack
-codes_read_back n small =
-    let fits : n < 2 ^ 64 = omega arith in
-    ap (at_most 4294967295) (numeral-is (decimal n) (decimal_nonempty n fits) (digits_decimal own n fits) ∙ ap Some (digits_value-decimal own n fits))
-    ∙ cond-true _ _ _ (le-leb n 4294967295 (omega arith))
+reads_back : (n most : ℕ) → n < 2 ^ 64 → n ≤ most → at_most most (numeral (decimal n)) ≡ Some n
+reads_back n most fits small =
+    ap (at_most most) (numeral-is (decimal n) (decimal_nonempty n fits) (digits_decimal own n fits) ∙ ap Some (digits_value-decimal own n fits))
+    ∙ cond-true _ _ _ (le-leb n most small)
+
+pub numbers_read_back : NumbersReadBack
+numbers_read_back n = ((λ small. reads_back n 4294967295 (omega arith) (omega arith)), (λ small. reads_back n 18446744073709551615 (omega arith) (omega arith)))
 
 abbrev Dark : List ℕ → Type 0
 Dark w = AllByRecursion (λ b. is_blank b ≡ false) w

@@ -6,7 +6,7 @@ use Rattle.std.proofs.lemmas.Option.{slice_get-get_or}
 use Rattle.words.specs.declared.unclear.Unclear.{Unclear}
 use Rattle.words.specs.declared.unclear.Why.TheVariants.{NotARoleCode}
 use Rattle.words.specs.Saying.{then_ok, wanted, code_at, pairs_from}
-use Rattle.words.specs.Spelling.{role_code}
+use Rattle.words.specs.Spelling.{narrow}
 
 abbrev pub Pairs : Type 0
 Pairs = Result (List (ℕ × ℕ)) Unclear
@@ -28,7 +28,7 @@ abbrev step : ℕ → Result ℕ Unclear → Result ℕ Unclear → List (List �
 step place a b rest = then_ok a (λ a. then_ok b (λ b. onto ((a, b) ∷ []) (pairs_from (place + 2) rest)))
 
 abbrev code : ℕ → Option (List ℕ) → Result ℕ Unclear
-code place word = wanted role_code NotARoleCode place word
+code place word = wanted narrow NotARoleCode place word
 
 two_words : (place : ℕ) (w : List ℕ) (rest : List (List ℕ))
     → pairs_from place (w ∷ rest) ≡ step place (code place (Some w)) (code (place + 1) (slice_get rest 0)) (drop 1 rest)

@@ -2,11 +2,11 @@
 use Rattle.std.specs.Prelude.{◌≡◌, ℕ, ◌^◌, ◌<◌, false, List, [], ◌∷◌, ◌++◌, length, Some, decimal}
 use Rattle.std.specs.List.{AllByRecursion}
 use Rattle.words.specs.Cutting.{is_blank, words_of}
-use Rattle.words.specs.Spelling.{role_code}
+use Rattle.words.specs.Spelling.{narrow, wide}
 
--- A role's code, printed as a number, is read as that code.
-abbrev pub CodesReadBack : Type 0
-CodesReadBack = (code : ℕ) → code < 2 ^ 32 → role_code (decimal code) ≡ Some code
+-- A number that is printed is read as that number.
+abbrev pub NumbersReadBack : Type 0
+NumbersReadBack = (n : ℕ) → (n < 2 ^ 32 → narrow (decimal n) ≡ Some n) × (n < 2 ^ 64 → wide (decimal n) ≡ Some n)
 
 -- A word holds a byte, and no blank.
 abbrev pub Word : List ℕ → Type 0
@@ -27,4 +27,4 @@ WordsReadBack = (words : List (List ℕ)) → AllByRecursion Word words → word
 
 -- All three.
 abbrev pub ReadsBack : Type 0
-ReadsBack = CodesReadBack × LinesHoldWords × WordsReadBack
+ReadsBack = NumbersReadBack × LinesHoldWords × WordsReadBack

@@ -8,18 +8,25 @@ use Rattle.words.specs.declared.line.Command.{Command}
 use Rattle.words.specs.declared.line.Command.TheVariants as command
 use Rattle.words.specs.declared.unclear.LineError.{LineError}
 use Rattle.words.specs.declared.unclear.LineError.TheVariants as error
+use Rattle.words.specs.declared.line.Sheet.{Sheet}
+use Rattle.words.specs.declared.line.Sheet.TheVariants as sheet
 use Rattle.words.specs.declared.line.OrderKind.{OrderKind}
 use Rattle.words.specs.declared.line.OrderKind.TheVariants.{Drawn, Rights}
 use Rattle.words.specs.declared.unclear.Unclear.{Unclear}
 use Rattle.words.specs.declared.unclear.Why.{Why}
-use Rattle.words.specs.declared.unclear.Why.TheVariants.{NotACommand, NotAnOrder, NotARoleCode, NotARoleSet, NeitherHexNorFile, NotHexadecimal, Missing, TooMany}
+use Rattle.words.specs.declared.unclear.Why.TheVariants.{NotACommand, NotAnOrder, NotARoleCode, NotARoleSet, NeitherHexNorFile, NotHexadecimal, NotANumber, Missing, TooMany}
 use Rattle.words.specs.declared.named.Name.{Name}
 use Rattle.words.specs.declared.named.Name.TheVariants as name
 use Rattle.words.specs.declared.named.Source.{Source}
 use Rattle.words.specs.declared.named.Source.TheVariants.{Hex, File}
 use Rattle.words.specs.Cutting.{words_of}
 use Rattle.words.specs.Hex.{hex_bytes}
-use Rattle.words.specs.Spelling.{role_code, role_set}
+use Rattle.words.specs.Spelling.{narrow, wide, role_set}
+
+-- How a sheet is given: by its bytes, or by the name of the file that holds them.
+pub data Given : Type 0 where
+  in_bytes : List ℕ → Given
+  in_file : List ℕ → Given
 
 -- What a command asks.
 pub data Asked : Type 0 where
@@ -28,8 +35,11 @@ pub data Asked : Type 0 where
   below : ℕ → ℕ → Asked
   under : ℕ → ℕ → Asked
   opens : ℕ → ℕ → Asked
-  list_hex : List ℕ → Asked
-  list_file : List ℕ → Asked
+  list : Given → Asked
+  load : Given → Asked
+  close : Asked
+  dump : Asked
+  poke : ℕ → ℕ → ℕ → ℕ → Asked
 
 -- What a line says.
 pub data Said : Type 0 where
@@ -64,7 +74,11 @@ name_of word =
     (cond (bytes_eq word (codes "below")) (Some name.Below)
     (cond (bytes_eq word (codes "under")) (Some name.Under)
     (cond (bytes_eq word (codes "opens")) (Some name.Opens)
-    (cond (bytes_eq word (codes "list")) (Some name.List) None)))))
+    (cond (bytes_eq word (codes "list")) (Some name.List)
+    (cond (bytes_eq word (codes "load")) (Some name.Load)
+    (cond (bytes_eq word (codes "close")) (Some name.Close)
+    (cond (bytes_eq word (codes "dump")) (Some name.Dump)
+    (cond (bytes_eq word (codes "poke")) (Some name.Poke) None)))))))))
 
 -- The names of the orders.
 abbrev pub order_of : List ℕ → Option OrderKind
@@ -80,11 +94,19 @@ order_at words place = wanted order_of NotAnOrder place (slice_get words place)
 
 -- The role's code that stands at a place.
 unfoldable pub code_at : List (List ℕ) → ℕ → Result ℕ Unclear
-code_at words place = wanted role_code NotARoleCode place (slice_get words place)
+code_at words place = wanted narrow NotARoleCode place (slice_get words place)
 
 -- The set of roles that stands at a place.
 unfoldable pub set_at : List (List ℕ) → ℕ → Result ℕ Unclear
 set_at words place = wanted role_set NotARoleSet place (slice_get words place)
+
+-- The number of 32 bits that stands at a place.
+unfoldable pub narrow_at : List (List ℕ) → ℕ → Result ℕ Unclear
+narrow_at words place = wanted narrow NotANumber place (slice_get words place)
+
+-- The number of 64 bits that stands at a place.
+unfoldable pub wide_at : List (List ℕ) → ℕ → Result ℕ Unclear
+wide_at words place = wanted wide NotANumber place (slice_get words place)
 
 -- The way in which a sheet is given that stands at a place.
 unfoldable pub source_at : List (List ℕ) → ℕ → Result Source Unclear
@@ -121,36 +143,42 @@ opens_asked words = then_ok (set_at words 1) (λ a. then_ok (set_at words 2) (λ
 -- The pairs of role codes that are spelled by words of which the first has the number `place`.
 abbrev pub pairs_from : ℕ → List (List ℕ) → Result (List (ℕ × ℕ)) Unclear
 pairs_from place [] = Ok []
-pairs_from place (v ∷ []) = then_ok (wanted role_code NotARoleCode place (Some v)) (λ a. Err (fault (place + 1) Missing))
+pairs_from place (v ∷ []) = then_ok (wanted narrow NotARoleCode place (Some v)) (λ a. Err (fault (place + 1) Missing))
 pairs_from place (v ∷ w ∷ ws) =
-    then_ok (wanted role_code NotARoleCode place (Some v)) (λ a.
-    then_ok (wanted role_code NotARoleCode (place + 1) (Some w)) (λ b.
+    then_ok (wanted narrow NotARoleCode place (Some v)) (λ a.
+    then_ok (wanted narrow NotARoleCode (place + 1) (Some w)) (λ b.
     then_ok (pairs_from (place + 2) ws) (λ pairs. Ok ((a, b) ∷ pairs))))
 
 -- `draw A B A B ..`
 abbrev pub draw_asked : List (List ℕ) → Result Asked Unclear
 draw_asked words = then_ok (pairs_from 1 (drop 1 words)) (λ pairs. Ok (draw pairs))
 
--- What is asked, if the line ends before the word 3.
-abbrev pub closed : List (List ℕ) → Asked → Result Asked Unclear
-closed words a = then_ok (end_at words 3) (λ _. Ok a)
+-- The sheet whose bytes are spelled, or whose file is named, by the word 2.
+abbrev pub sheet_from : Source → List (List ℕ) → Result Given Unclear
+sheet_from Hex words = then_ok (hex_at words 2) (λ b. Ok (in_bytes b))
+sheet_from File words = then_ok (word_at words 2) (λ name. Ok (in_file name))
 
--- `list hex BYTES`
-abbrev pub hex_asked : List (List ℕ) → Result Asked Unclear
-hex_asked words = then_ok (hex_at words 2) (λ bytes. closed words (list_hex bytes))
-
--- `list file NAME`
-abbrev pub file_asked : List (List ℕ) → Result Asked Unclear
-file_asked words = then_ok (word_at words 2) (λ name. closed words (list_file name))
-
--- `list`, by the way in which the sheet is given.
-abbrev pub listed_from : Source → List (List ℕ) → Result Asked Unclear
-listed_from Hex words = hex_asked words
-listed_from File words = file_asked words
+-- `hex BYTES` or `file NAME`, and no more
+abbrev pub sheet_asked : List (List ℕ) → Result Given Unclear
+sheet_asked words = then_ok (source_at words 1) (λ source. then_ok (sheet_from source words) (λ given. then_ok (end_at words 3) (λ _. Ok given)))
 
 -- `list hex BYTES` or `list file NAME`
 abbrev pub list_asked : List (List ℕ) → Result Asked Unclear
-list_asked words = then_ok (source_at words 1) (λ source. listed_from source words)
+list_asked words = then_ok (sheet_asked words) (λ given. Ok (list given))
+
+-- `load hex BYTES` or `load file NAME`
+abbrev pub load_asked : List (List ℕ) → Result Asked Unclear
+load_asked words = then_ok (sheet_asked words) (λ given. Ok (load given))
+
+-- `close` or `dump`: a command that is its name alone.
+abbrev pub alone : List (List ℕ) → Asked → Result Asked Unclear
+alone words a = then_ok (end_at words 1) (λ _. Ok a)
+
+-- `poke TABLE ROW FIELD VALUE`
+abbrev pub poke_asked : List (List ℕ) → Result Asked Unclear
+poke_asked words =
+    then_ok (narrow_at words 1) (λ table. then_ok (narrow_at words 2) (λ row. then_ok (narrow_at words 3) (λ field.
+    then_ok (wide_at words 4) (λ value. then_ok (end_at words 5) (λ _. Ok (poke table row field value))))))
 
 -- What the command of this name asks.
 abbrev pub asked_by : Option Name → List (List ℕ) → Result Asked Unclear
@@ -161,6 +189,10 @@ asked_by (Some name.Below) words = below_asked words
 asked_by (Some name.Under) words = under_asked words
 asked_by (Some name.Opens) words = opens_asked words
 asked_by (Some name.List) words = list_asked words
+asked_by (Some name.Load) words = load_asked words
+asked_by (Some name.Close) words = alone words close
+asked_by (Some name.Dump) words = alone words dump
+asked_by (Some name.Poke) words = poke_asked words
 
 -- What a line says that is no note.
 abbrev pub said_is : Result Asked Unclear → Said
@@ -180,6 +212,11 @@ said_by (w ∷ ws) = cond (is_note w) passed (said_is (asked_by (name_of w) (w �
 abbrev pub said : List ℕ → Said
 said bytes = said_by (words_of bytes)
 
+-- How a sheet is given, as the program holds it.
+abbrev pub given : Sheet → Given
+given (sheet.Bytes bytes) = in_bytes (vec_items bytes)
+given (sheet.File name) = in_file (vec_items name)
+
 -- What a command asks, as the program holds it.
 abbrev pub asked_of : Command → Asked
 asked_of (command.Order kind) = order kind
@@ -187,8 +224,11 @@ asked_of (command.Draw pairs) = draw (vec_items pairs)
 asked_of (command.Below a b) = below a b
 asked_of (command.Under a b) = under a b
 asked_of (command.Opens a b) = opens a b
-asked_of (command.ListHex bytes) = list_hex (vec_items bytes)
-asked_of (command.ListFile name) = list_file (vec_items name)
+asked_of (command.List s) = list (given s)
+asked_of (command.Load s) = load (given s)
+asked_of command.Close = close
+asked_of command.Dump = dump
+asked_of (command.Poke table row field value) = poke table row field value
 
 -- The same where a fault may stand in its place.
 abbrev pub asked : Result Command Unclear → Result Asked Unclear

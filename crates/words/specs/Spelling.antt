@@ -19,9 +19,13 @@ abbrev pub at_most : ℕ → Option ℕ → Option ℕ
 at_most most None = None
 at_most most (Some n) = cond (nat_le n most) (Some n) None
 
--- A role's code is a number of 32 bits.
-abbrev pub role_code : List ℕ → Option ℕ
-role_code word = at_most 4294967295 (numeral word)
+-- A number of 64 bits.
+abbrev pub wide : List ℕ → Option ℕ
+wide word = at_most 18446744073709551615 (numeral word)
+
+-- A number of 32 bits: a role's code, or a number of a table.
+abbrev pub narrow : List ℕ → Option ℕ
+narrow word = at_most 4294967295 (numeral word)
 
 -- A role that may stand in a set: one of 64.
 abbrev pub role : List ℕ → Option ℕ

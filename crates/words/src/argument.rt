@@ -4,12 +4,12 @@ ghost use Rattle.std.specs.Fn.{FnOnceReturnsAt};
 ghost use Rattle.words.specs.declared.unclear.Why.TheVariants.{Missing};
 ghost use Rattle.words.specs.Arguments.{Passes};
 ghost use Rattle.words.specs.Cutting.{texts};
-ghost use Rattle.words.specs.Saying.{fault, Reads, Wanted, order_at, code_at, set_at, source_at, hex_at, word_at, end_at, pairs_from};
+ghost use Rattle.words.specs.Saying.{fault, Reads, Wanted, order_at, code_at, set_at, narrow_at, wide_at, source_at, hex_at, word_at, end_at, pairs_from};
 
 use super::hex::hex_bytes;
 use super::line::OrderKind;
 use super::named::{Source, order_of, source_of};
-use super::spelled::{role_code, role_set};
+use super::spelled::{narrow, role_set, wide};
 use super::unclear::{LineError, Unclear, Why};
 use std::alloc::Global;
 
@@ -69,7 +69,7 @@ impl<'a> Arguments<'a> {
         ensures answer { result ≡ code_at (texts self.old.words.now) self.old.place }
         ensures passes { Passes self.old self.new result }
     {
-        self.read(Why::NotARoleCode, role_code)
+        self.read(Why::NotARoleCode, narrow)
     }
 
     #[tactic(auto, unfolding(crate::specs::Saying::set_at), using(crate::proofs::Places::wanted_from))]
@@ -78,6 +78,22 @@ impl<'a> Arguments<'a> {
         ensures passes { Passes self.old self.new result }
     {
         self.read(Why::NotARoleSet, role_set)
+    }
+
+    #[tactic(auto, unfolding(crate::specs::Saying::narrow_at), using(crate::proofs::Places::wanted_from))]
+    pub(crate) fn narrow(&mut self) -> Result<u32, Unclear>
+        ensures answer { result ≡ narrow_at (texts self.old.words.now) self.old.place }
+        ensures passes { Passes self.old self.new result }
+    {
+        self.read(Why::NotANumber, narrow)
+    }
+
+    #[tactic(auto, unfolding(crate::specs::Saying::wide_at), using(crate::proofs::Places::wanted_from))]
+    pub(crate) fn wide(&mut self) -> Result<u64, Unclear>
+        ensures answer { result ≡ wide_at (texts self.old.words.now) self.old.place }
+        ensures passes { Passes self.old self.new result }
+    {
+        self.read(Why::NotANumber, wide)
     }
 
     #[tactic(auto, unfolding(crate::specs::Saying::source_at), using(crate::proofs::Places::wanted_from))]

@@ -7,17 +7,40 @@ pub enum OrderKind {
     Rights,
 }
 
+// How a sheet is given: by its bytes, or by the name of the file that holds them.
+#[derive(Debug, PartialEq, Eq, Drop)]
+pub enum Sheet {
+    Bytes(Vec<u8>),
+    File(Vec<u8>),
+}
+
 #[derive(Debug, PartialEq, Eq, Drop)]
 pub enum Command {
     Order(OrderKind),
     // Each pair puts its first role below its second.
     Draw(Vec<(u32, u32)>),
-    Below { a: u32, b: u32 },
+    Below {
+        a: u32,
+        b: u32,
+    },
     // A set of roles is a number whose bit r stands for role r.
-    Under { a: u64, b: u64 },
-    Opens { set: u64, roles: u64 },
-    // The bytes of a sheet.
-    ListHex(Vec<u8>),
-    // The name of the file that holds a sheet.
-    ListFile(Vec<u8>),
+    Under {
+        a: u64,
+        b: u64,
+    },
+    Opens {
+        set: u64,
+        roles: u64,
+    },
+    List(Sheet),
+    Load(Sheet),
+    Close,
+    Dump,
+    // The number in this field of this row is to be written over.
+    Poke {
+        table: u32,
+        row: u32,
+        field: u32,
+        value: u64,
+    },
 }

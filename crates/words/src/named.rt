@@ -12,9 +12,13 @@ pub enum Name {
     Under,
     Opens,
     List,
+    Load,
+    Close,
+    Dump,
+    Poke,
 }
 
-// How a sheet is given: by its bytes, or by the file that holds them.
+// The ways in which a sheet is given.
 #[derive(Clone, Copy, Debug, PartialEq, Eq)]
 pub enum Source {
     Hex,
@@ -31,6 +35,10 @@ pub(crate) fn name_of(word: &[u8]) -> Option<Name>
         b"under" => Some(Name::Under),
         b"opens" => Some(Name::Opens),
         b"list" => Some(Name::List),
+        b"load" => Some(Name::Load),
+        b"close" => Some(Name::Close),
+        b"dump" => Some(Name::Dump),
+        b"poke" => Some(Name::Poke),
         _ => None,
     }
 }

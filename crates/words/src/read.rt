@@ -1,11 +1,11 @@
 // Reads what a line says, word by word from the left.
 ghost use Rattle.std.specs.Prelude.{◌≡◌, Some, IfSome};
 ghost use Rattle.words.specs.Cutting.{texts};
-ghost use Rattle.words.specs.Saying.{Reads, order_asked, below_asked, under_asked, opens_asked, draw_asked, list_asked, asked, asked_of, asked_by, is_note, said_by, said, said_of};
+ghost use Rattle.words.specs.Saying.{Reads, order_asked, below_asked, under_asked, opens_asked, draw_asked, given, sheet_from, sheet_asked, alone, poke_asked, asked, asked_of, asked_by, is_note, said_by, said, said_of};
 
 use super::argument::Arguments;
 use super::cut::cut;
-use super::line::Command;
+use super::line::{Command, Sheet};
 use super::named::{Name, Source, name_of};
 use super::unclear::{LineError, Unclear, Why};
 use std::alloc::Global;
@@ -57,16 +57,42 @@ fn draw(heap: Global, words: &[&[u8]]) -> Result<Command, LineError>
     Ok(Command::Draw(pairs))
 }
 
-fn list(heap: Global, words: &[&[u8]]) -> Result<Command, LineError>
-    ensures answer { Reads asked_of result (list_asked (texts words.now)) }
+// A sheet is given in the same ways for whatever command.
+fn sheet(heap: Global, words: &[&[u8]]) -> Result<Sheet, LineError>
+    ensures answer { Reads given result (sheet_asked (texts words.now)) }
 {
     let mut arguments = Arguments::of(words);
-    let command = match arguments.source()? {
-        Source::Hex => Command::ListHex(arguments.hex(heap)?),
-        Source::File => Command::ListFile(arguments.own_bytes(heap)?),
+    let sheet = match arguments.source()? {
+        Source::Hex => Sheet::Bytes(arguments.hex(heap)?),
+        Source::File => Sheet::File(arguments.own_bytes(heap)?),
     };
     arguments.end()?;
+    Ok(sheet)
+}
+
+// The command is its name alone.
+fn alone(words: &[&[u8]], command: Command) -> Result<Command, Unclear>
+    ensures answer { asked result ≡ alone (texts words.now) (asked_of command) }
+{
+    Arguments::of(words).end()?;
     Ok(command)
+}
+
+fn poke(words: &[&[u8]]) -> Result<Command, Unclear>
+    ensures answer { asked result ≡ poke_asked (texts words.now) }
+{
+    let mut arguments = Arguments::of(words);
+    let table = arguments.narrow()?;
+    let row = arguments.narrow()?;
+    let field = arguments.narrow()?;
+    let value = arguments.wide()?;
+    arguments.end()?;
+    Ok(Command::Poke {
+        table,
+        row,
+        field,
+        value,
+    })
 }
 
 // The words are those of the command, its name among them.
@@ -79,7 +105,11 @@ fn asked_by(heap: Global, name: Option<Name>, words: &[&[u8]]) -> Result<Command
         Some(Name::Below) => Ok(below(words)?),
         Some(Name::Under) => Ok(under(words)?),
         Some(Name::Opens) => Ok(opens(words)?),
-        Some(Name::List) => list(heap, words),
+        Some(Name::List) => Ok(Command::List(sheet(heap, words)?)),
+        Some(Name::Load) => Ok(Command::Load(sheet(heap, words)?)),
+        Some(Name::Close) => Ok(alone(words, Command::Close)?),
+        Some(Name::Dump) => Ok(alone(words, Command::Dump)?),
+        Some(Name::Poke) => Ok(poke(words)?),
         None => Err(LineError::Unclear(Unclear {
             word: 0,
             why: Why::NotACommand,

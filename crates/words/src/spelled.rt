@@ -1,10 +1,10 @@
 // Reads the numbers and the sets of roles that words spell.
 ghost use Rattle.std.specs.Prelude.{◌≡◌};
-ghost use Rattle.words.specs.Spelling.{numeral, at_most, role, role_code, roles_in, role_set, one_role};
+ghost use Rattle.words.specs.Spelling.{wide, narrow, roles_in, role_set, one_role};
 
-// The number that a word of decimal digits spells, if it is not larger than `most`. (`parse` would also take a sign.)
-fn number(word: &[u8], most: u32) -> Option<u32>
-    ensures answer { result ≡ at_most most (numeral word.now) }
+// The number of 64 bits that a word of decimal digits spells. (`parse` would also take a sign.)
+pub(crate) fn wide(word: &[u8]) -> Option<u64>
+    ensures answer { result ≡ wide word.now }
 {
     if word.is_empty() {
         return None;
@@ -14,20 +14,26 @@ fn number(word: &[u8], most: u32) -> Option<u32>
         if !byte.is_ascii_digit() {
             return None;
         }
-        value = value * 10 + u64::from(*byte - b'0');
-        if value > u64::from(most) {
-            return None;
-        }
+        value = value.checked_mul(10)?.checked_add(u64::from(*byte - b'0'))?;
     }
-    Some(value as u32)
+    Some(value)
+}
+
+// A number of 32 bits: a role's code, or a number of a table.
+pub(crate) fn narrow(word: &[u8]) -> Option<u32>
+    ensures answer { result ≡ narrow word.now }
+{
+    u32::try_from(wide(word)?).ok()
 }
 
 // The set of one role.
 fn one_role(word: &[u8]) -> Option<u64>
     ensures answer { result ≡ one_role word.now }
 {
-    let role = number(word, 63)?;
-    Some(1 << role)
+    match wide(word)? {
+        role @ 0..64 => Some(1 << role),
+        _ => None,
+    }
 }
 
 // The set of the roles between two braces.
@@ -42,12 +48,6 @@ fn roles(inner: &[u8]) -> Option<u64>
         set |= one_role(word)?;
     }
     Some(set)
-}
-
-pub(crate) fn role_code(word: &[u8]) -> Option<u32>
-    ensures answer { result ≡ role_code word.now }
-{
-    number(word, u32::MAX)
 }
 
 pub(crate) fn role_set(word: &[u8]) -> Option<u64>

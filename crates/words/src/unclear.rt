@@ -17,8 +17,14 @@ pub enum Why {
     NotARoleSet,
     NeitherHexNorFile,
     NotHexadecimal,
+    NotANumber,
     // The file that the word names.
     CannotBeRead,
+    // What the word of a poke names, or its value, which does not fit there.
+    NoSuchTable,
+    NoSuchRow,
+    NoSuchField,
+    TooWide,
     Missing,
     TooMany,
 }
@@ -34,7 +40,12 @@ impl fmt::Display for Why {
             Why::NotARoleSet => "not a role set",
             Why::NeitherHexNorFile => "neither hex nor file",
             Why::NotHexadecimal => "not hexadecimal",
+            Why::NotANumber => "not a number",
             Why::CannotBeRead => "cannot be read",
+            Why::NoSuchTable => "no such table",
+            Why::NoSuchRow => "no such row",
+            Why::NoSuchField => "no such field",
+            Why::TooWide => "too wide",
             Why::Missing => "missing",
             Why::TooMany => "too many words",
         })
