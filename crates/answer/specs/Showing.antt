@@ -10,6 +10,7 @@ use Rattle.words.specs.Showing.{unclear_text}
 abbrev pub state_text : State → List ℕ
 state_text state.Blank = codes "blank"
 state_text state.Draft = codes "draft"
+state_text state.Live = codes "live"
 
 -- The line that is printed, without its end.
 abbrev pub answer_text : Answer → List ℕ
@@ -18,9 +19,11 @@ answer_text answer.Yes = codes "yes"
 answer_text answer.No = codes "no"
 answer_text (answer.PairRefused number pair) = codes "refused " ++ (decimal number ++ (codes " pair " ++ decimal pair))
 answer_text (answer.NotDrawn number) = codes "refused " ++ (decimal number ++ codes " not drawn")
-answer_text (answer.Count lines) = codes "ok " ++ decimal lines
+answer_text (answer.Count count) = codes "ok " ++ decimal count
 answer_text (answer.ReadRefused number line byte) =
     codes "refused " ++ (decimal number ++ (codes " line " ++ (decimal line ++ (codes " byte " ++ decimal byte))))
 answer_text (answer.LineRefused number line) = codes "refused " ++ (decimal number ++ (codes " line " ++ decimal line))
+answer_text (answer.BreachRefused number table row rule) =
+    codes "refused " ++ (decimal number ++ (codes " table " ++ (decimal table ++ (codes " row " ++ (decimal row ++ (codes " rule " ++ decimal rule))))))
 answer_text (answer.NotNow s) = codes "? not now: " ++ state_text s
 answer_text (answer.Unclear u) = codes "? " ++ unclear_text u

@@ -5,11 +5,12 @@ ghost use Rattle.answer.specs.Showing.{state_text, answer_text};
 use std::fmt;
 use words::Unclear;
 
-// What a session has of a network: none, or one that is loaded.
+// What a session has of a network: none, one that is loaded, or one that is admitted.
 #[derive(Clone, Copy, Debug, PartialEq, Eq)]
 pub enum State {
     Blank,
     Draft,
+    Live,
 }
 
 impl fmt::Display for State {
@@ -19,6 +20,7 @@ impl fmt::Display for State {
         f.write_str(match self {
             State::Blank => "blank",
             State::Draft => "draft",
+            State::Live => "live",
         })
     }
 }
@@ -38,9 +40,9 @@ pub enum Answer {
     NotDrawn {
         number: u32,
     },
-    // So many lines were listed, or loaded.
+    // So many lines were listed or loaded, or so many jobs admitted.
     Count {
-        lines: usize,
+        count: usize,
     },
     // A line of a sheet could not be read, from this byte of the sheet on.
     ReadRefused {
@@ -52,6 +54,13 @@ pub enum Answer {
     LineRefused {
         number: u32,
         line: usize,
+    },
+    // A row of a table has no shape, or breaks this rule.
+    BreachRefused {
+        number: u32,
+        table: u32,
+        row: usize,
+        rule: u32,
     },
     // The command does not fit what the session has.
     NotNow(State),
@@ -68,11 +77,17 @@ impl fmt::Display for Answer {
             Answer::No => f.write_str("no"),
             Answer::PairRefused { number, pair } => write!(f, "refused {number} pair {pair}"),
             Answer::NotDrawn { number } => write!(f, "refused {number} not drawn"),
-            Answer::Count { lines } => write!(f, "ok {lines}"),
+            Answer::Count { count } => write!(f, "ok {count}"),
             Answer::ReadRefused { number, line, byte } => {
                 write!(f, "refused {number} line {line} byte {byte}")
             }
             Answer::LineRefused { number, line } => write!(f, "refused {number} line {line}"),
+            Answer::BreachRefused {
+                number,
+                table,
+                row,
+                rule,
+            } => write!(f, "refused {number} table {table} row {row} rule {rule}"),
             Answer::NotNow(state) => write!(f, "? not now: {state}"),
             Answer::Unclear(unclear) => write!(f, "? {unclear}"),
         }

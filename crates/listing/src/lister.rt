@@ -62,7 +62,7 @@ impl<'a> Listing<'a> {
                 self.line = line + 1;
                 Ok(ControlFlow::Continue(text_of(heap, line, placed)?))
             }
-            Ok(None) => Ok(ControlFlow::Break(Answer::Count { lines: line })),
+            Ok(None) => Ok(ControlFlow::Break(Answer::Count { count: line })),
             Err(fault) => Ok(ControlFlow::Break(Answer::ReadRefused {
                 number: fault.number(),
                 line,

@@ -37,6 +37,7 @@ pub data Asked : Type 0 where
   opens : ℕ → ℕ → Asked
   list : Given → Asked
   load : Given → Asked
+  admit : Asked
   close : Asked
   dump : Asked
   poke : ℕ → ℕ → ℕ → ℕ → Asked
@@ -76,9 +77,10 @@ name_of word =
     (cond (bytes_eq word (codes "opens")) (Some name.Opens)
     (cond (bytes_eq word (codes "list")) (Some name.List)
     (cond (bytes_eq word (codes "load")) (Some name.Load)
+    (cond (bytes_eq word (codes "admit")) (Some name.Admit)
     (cond (bytes_eq word (codes "close")) (Some name.Close)
     (cond (bytes_eq word (codes "dump")) (Some name.Dump)
-    (cond (bytes_eq word (codes "poke")) (Some name.Poke) None)))))))))
+    (cond (bytes_eq word (codes "poke")) (Some name.Poke) None))))))))))
 
 -- The names of the orders.
 abbrev pub order_of : List ℕ → Option OrderKind
@@ -170,7 +172,7 @@ list_asked words = then_ok (sheet_asked words) (λ given. Ok (list given))
 abbrev pub load_asked : List (List ℕ) → Result Asked Unclear
 load_asked words = then_ok (sheet_asked words) (λ given. Ok (load given))
 
--- `close` or `dump`: a command that is its name alone.
+-- `admit`, `close` or `dump`: a command that is its name alone.
 abbrev pub alone : List (List ℕ) → Asked → Result Asked Unclear
 alone words a = then_ok (end_at words 1) (λ _. Ok a)
 
@@ -190,6 +192,7 @@ asked_by (Some name.Under) words = under_asked words
 asked_by (Some name.Opens) words = opens_asked words
 asked_by (Some name.List) words = list_asked words
 asked_by (Some name.Load) words = load_asked words
+asked_by (Some name.Admit) words = alone words admit
 asked_by (Some name.Close) words = alone words close
 asked_by (Some name.Dump) words = alone words dump
 asked_by (Some name.Poke) words = poke_asked words
@@ -226,6 +229,7 @@ asked_of (command.Under a b) = under a b
 asked_of (command.Opens a b) = opens a b
 asked_of (command.List s) = list (given s)
 asked_of (command.Load s) = load (given s)
+asked_of command.Admit = admit
 asked_of command.Close = close
 asked_of command.Dump = dump
 asked_of (command.Poke table row field value) = poke table row field value

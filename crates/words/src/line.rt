@@ -34,6 +34,7 @@ pub enum Command {
     },
     List(Sheet),
     Load(Sheet),
+    Admit,
     Close,
     Dump,
     // The number in this field of this row is to be written over.

@@ -107,6 +107,7 @@ fn asked_by(heap: Global, name: Option<Name>, words: &[&[u8]]) -> Result<Command
         Some(Name::Opens) => Ok(opens(words)?),
         Some(Name::List) => Ok(Command::List(sheet(heap, words)?)),
         Some(Name::Load) => Ok(Command::Load(sheet(heap, words)?)),
+        Some(Name::Admit) => Ok(alone(words, Command::Admit)?),
         Some(Name::Close) => Ok(alone(words, Command::Close)?),
         Some(Name::Dump) => Ok(alone(words, Command::Dump)?),
         Some(Name::Poke) => Ok(poke(words)?),
