@@ -28,7 +28,7 @@ pub fn destination(
 {
     match operand {
         Operand::Row(row) => locations.get(row as usize).map(|location| location.policy),
-        Operand::Slot(slot) => place_policy(part_at(patterns, slots, slot)),
+        Operand::Slot(slot) => place_policy(part_at(patterns, slots, slot as usize)),
     }
 }
 
@@ -66,6 +66,6 @@ pub fn path_set(
 {
     match operand {
         Operand::Row(row) => last_set(steps, row),
-        Operand::Slot(slot) => route_set(part_at(patterns, slots, slot)),
+        Operand::Slot(slot) => route_set(part_at(patterns, slots, slot as usize)),
     }
 }

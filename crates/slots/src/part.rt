@@ -40,35 +40,37 @@ pub fn pattern_at(patterns: &[PatternRow], row: usize) -> Option<Pattern>
 }
 
 // The part that lies in this slot, if one does.
-fn part_in(pattern: Pattern, slot: u32) -> Option<Part>
+fn part_in(pattern: Pattern, slot: usize) -> Option<Part>
     ensures answer { result ≡ part_in pattern slot }
 {
     match pattern {
-        Pattern::Number { slot: own } => (slot == own).then_some(Part::Number),
-        Pattern::Script { slot: own, policy } => (slot == own).then_some(Part::Script { policy }),
+        Pattern::Number { slot: own } => (slot == own as usize).then_some(Part::Number),
+        Pattern::Script { slot: own, policy } => (slot == own as usize).then_some(Part::Script {
+            policy,
+        }),
         Pattern::Pointer {
             slot: own,
             policy,
             ..
-        } if slot == own => Some(Part::Place { policy }),
+        } if slot == own as usize => Some(Part::Place { policy }),
         Pattern::Pointer {
             slot: own,
             last,
             ..
-        } => (slot as u64 == own as u64 + 1).then_some(Part::Route { last }),
+        } => (slot == own as usize + 1).then_some(Part::Route { last }),
         Pattern::Tree {
             slot: own,
             policy,
             top,
             all,
-        } => (slot == own).then_some(Part::Tree { policy, top, all }),
+        } => (slot == own as usize).then_some(Part::Tree { policy, top, all }),
     }
 }
 
 // What the slot was filled with.
-pub fn part_at(patterns: &[PatternRow], slots: &Slots, slot: u32) -> Option<Part>
+pub fn part_at(patterns: &[PatternRow], slots: &Slots, slot: usize) -> Option<Part>
     ensures answer { result ≡ part_at patterns.now slots.now slot }
 {
-    let row = slots.get(slot as usize)?.checked_sub(1)?;
+    let row = slots.get(slot)?.checked_sub(1)?;
     part_in(pattern_at(patterns, row)?, slot)
 }
