@@ -7,4 +7,4 @@ mod part;
 
 pub use filling::filled;
 pub use operands::{destination, last_set, path_set};
-pub use part::{Part, Slots, part_at, pattern_at};
+pub use part::{Part, Slots, part_at, part_by, pattern_at};

@@ -1,6 +1,6 @@
 // The part of a pattern that lies in a slot.
 ghost use Rattle.std.specs.Prelude.{◌≡◌};
-ghost use Rattle.slots.specs.Slots.{pattern_at, part_in, part_at};
+ghost use Rattle.slots.specs.Slots.{pattern_at, part_in, part_by, part_at};
 
 use meaning::Pattern;
 use order::RoleSet;
@@ -67,10 +67,17 @@ fn part_in(pattern: Pattern, slot: usize) -> Option<Part>
     }
 }
 
+// What the slot was filled with, by the number that says how: 0, or the row of the pattern and 1.
+pub fn part_by(patterns: &[PatternRow], filler: usize, slot: usize) -> Option<Part>
+    ensures answer { result ≡ part_by patterns.now filler slot }
+{
+    let row = filler.checked_sub(1)?;
+    part_in(pattern_at(patterns, row)?, slot)
+}
+
 // What the slot was filled with.
 pub fn part_at(patterns: &[PatternRow], slots: &Slots, slot: usize) -> Option<Part>
     ensures answer { result ≡ part_at patterns.now slots.now slot }
 {
-    let row = slots.get(slot)?.checked_sub(1)?;
-    part_in(pattern_at(patterns, row)?, slot)
+    part_by(patterns, *slots.get(slot)?, slot)
 }
