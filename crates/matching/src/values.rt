@@ -85,6 +85,7 @@ impl<O: Order> Values<'_, O> {
                 .pattern(policy, top, all)
                 .matches(shelved(&self.tables.shelf, tree))
     }
+
     // Whether the value matches the part of a pattern.
     fn value_matches(&self, part: Option<Part>, value: u32) -> bool
         ensures answer { result ≡ value_matches (O.below self.now.order.now) (network self.now.tables.now).plan (network self.now.tables.now).shelf part value }
