@@ -1,0 +1,4 @@
+pub mod Broken
+pub mod Rules
+pub mod Told
+pub mod Words

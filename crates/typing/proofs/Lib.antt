@@ -1,0 +1,3 @@
+pub mod Inversions
+pub mod Judging
+pub mod Tellings

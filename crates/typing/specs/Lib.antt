@@ -1,0 +1,4 @@
+pub mod Flow
+pub mod Telling
+pub mod Typing
+pub mod TypingLaws
