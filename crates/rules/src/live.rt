@@ -19,4 +19,12 @@ impl Live {
     {
         self.jobs
     }
+
+    // The serial, and no live network more: for a host that ends.
+    pub fn spend(self) -> u64
+        ensures answer { result ≡ self.serial }
+    {
+        let Live { serial, jobs: _ } = self;
+        serial
+    }
 }

@@ -1,2 +1,3 @@
 pub mod Holding
+pub mod Orders
 pub mod Replies

@@ -8,7 +8,6 @@ use Rattle.poke.specs.Poking.{poked}
 use Rattle.order.specs.RoleSets.{set_below, opens_to}
 use Rattle.drawn.specs.Draws.{Least, FirstUnknown}
 use Rattle.drawn.specs.Rows.{rows_below}
-use Rattle.rights.specs.Bringing.{rights_below}
 use Rattle.answer.specs.declared.answer.Answer.{Answer}
 use Rattle.answer.specs.declared.answer.Answer.TheVariants as answer
 use Rattle.answer.specs.declared.answer.State.TheVariants as state
@@ -17,9 +16,10 @@ use Rattle.words.specs.declared.unclear.Why.TheVariants.{NoSuchTable, NoSuchRow,
 use Rattle.words.specs.declared.line.OrderKind.{OrderKind}
 use Rattle.words.specs.declared.line.OrderKind.TheVariants as kind
 use Rattle.words.specs.Saying.{Asked, Given, Said, given}
-use Rattle.words.specs.Saying.Asked.{order, draw, below, under, opens, list, load, close, dump, poke}
+use Rattle.words.specs.Saying.Asked.{order, draw, below, under, opens, list, load, admit, close, dump, poke}
 use Rattle.words.specs.Saying.Said.{passed, asks, unclear}
-use Rattle.session.specs.Holding.{ClosesHere, StartsOver}
+use Rattle.session.specs.Orders.{meaning}
+use Rattle.session.specs.Holding.{ClosesHere, AdmitsHere, StartsOver}
 use Rattle.session.specs.declared.holding.Holding.{Holding}
 use Rattle.session.specs.declared.holding.Holding.TheVariants as holding
 use Rattle.session.specs.declared.standing.Session.{Session}
@@ -27,11 +27,6 @@ use Rattle.session.specs.declared.standing.Reply.{Reply}
 use Rattle.session.specs.declared.standing.Reply.TheVariants as reply
 use Rattle.session.specs.declared.standing.Standing.{Standing}
 use Rattle.session.specs.declared.standing.Standing.TheVariants as standing
-
--- what the order in force means
-abbrev pub meaning : Standing → ℕ → ℕ → Bool
-meaning (standing.Drawn o) = rows_below o.rows
-meaning (standing.Rights o) = rights_below
 
 -- the order drawn from these pairs is in force
 abbrev pub DrawnFrom : List (ℕ × ℕ) → Standing → Type 0
@@ -77,6 +72,7 @@ ToLoad g reply.Dump = ⊥
 abbrev pub CallsToLoad : Holding → Given → Reply → Type 0
 CallsToLoad (holding.Blank b) g r = ToLoad g r
 CallsToLoad (holding.Draft d) g r = r ≡ reply.Answered (answer.NotNow state.Draft)
+CallsToLoad (holding.Live l) g r = r ≡ reply.Answered (answer.NotNow state.Live)
 
 -- The word of the command that is wrong: the table is word 1, the row 2, the field 3 and the value 4.
 abbrev pub word_of : Wrong → Unclear
@@ -108,6 +104,8 @@ Answers before t (under a b) r after u = (r ≡ reply.Answered (yes_no (set_belo
 Answers before t (opens set roles) r after u = (r ≡ reply.Answered (yes_no (opens_to (meaning before.order) set roles))) × Same before t after u
 Answers before t (list g) r after u = ToList g r × Same before t after u
 Answers before t (load g) r after u = CallsToLoad before.holding g r × Same before t after u
+Answers before t admit r after u =
+    (told : Answer) × (r ≡ reply.Answered told) × (after.order ≡ before.order) × AdmitsHere before.order before.holding t told after.holding × (u ≡ t)
 Answers before t close r after u =
     (told : Answer) × (r ≡ reply.Answered told) × (after.order ≡ before.order) × ClosesHere before.holding t told after.holding u
 Answers before t dump r after u = (r ≡ reply.Dump) × Same before t after u

@@ -6,8 +6,9 @@ ghost use Rattle.answer.specs.declared.answer.Answer.TheVariants as answer;
 ghost use Rattle.words.specs.Saying.{given, said, asked_of};
 ghost use Rattle.session.specs.declared.holding.Holding.TheVariants as holding;
 ghost use Rattle.session.specs.declared.standing.Reply.TheVariants as reply;
-ghost use Rattle.session.specs.Holding.{state_of, LoadsHere, ClosesHere, StartsOver};
-ghost use Rattle.session.specs.Replies.{meaning, yes_no, FreshOf, DrawnFrom, Draws, CallsToLoad, word_of, poke_answer, Answers, Turns};
+ghost use Rattle.session.specs.Orders.{meaning};
+ghost use Rattle.session.specs.Holding.{state_of, admitted, LoadsHere, AdmitsHere, ClosesHere, StartsOver};
+ghost use Rattle.session.specs.Replies.{yes_no, FreshOf, DrawnFrom, Draws, CallsToLoad, word_of, poke_answer, Answers, Turns};
 
 use super::holding::Holding;
 use super::standing::{Reply, Session, Standing};
@@ -18,7 +19,8 @@ use order::{Order, Role, RoleSet, opens, set_below};
 use poke::{Poke, Wrong, poke};
 use rights::Rights;
 use std::alloc::{AllocError, Global};
-use tables::Blank;
+use rules::{Fault, Live};
+use tables::{Blank, Draft};
 use words::{Command, LineError, OrderKind, Sheet, Unclear, Why, read_line};
 
 fn yes_no(holds: bool) -> Answer
@@ -78,6 +80,19 @@ impl Standing {
             Standing::Rights(order) => opens(order, set, roles),
         }
     }
+
+    pub(crate) fn admit(
+        &self,
+        draft: Draft,
+        tables: &Tables,
+    ) -> Result<(Live, usize), (Draft, Fault)>
+        ensures answer { result ≡ admitted self.now draft tables.now }
+    {
+        match self {
+            Standing::Drawn(order) => rules::admit(draft, tables, order),
+            Standing::Rights(order) => rules::admit(draft, tables, order),
+        }
+    }
 }
 
 // The word of the line that a poke found wrong.
@@ -133,6 +148,15 @@ impl Session {
         (Session { order, holding }, Reply::Answered(answer))
     }
 
+    fn admit(self, tables: &Tables) -> (Session, Reply)
+        ensures same { result.0.order ≡ self.order }
+        ensures answer { (told : Answer) × (result.1 ≡ reply.Answered told) × AdmitsHere self.order self.holding tables.now told result.0.holding }
+    {
+        let Session { order, holding } = self;
+        let (holding, answer) = holding.admit(&order, tables);
+        (Session { order, holding }, Reply::Answered(answer))
+    }
+
     // A fresh order, and blank tables.
     fn start_over(self, tables: &mut Tables, kind: OrderKind) -> (Session, Reply)
         ensures answer { result.1 ≡ reply.Answered answer.Ok }
@@ -153,7 +177,7 @@ impl Session {
     {
         match self.holding.state() {
             State::Blank => Reply::Load(sheet),
-            State::Draft => Reply::Answered(Answer::NotNow(State::Draft)),
+            state => Reply::Answered(Answer::NotNow(state)),
         }
     }
 
@@ -162,6 +186,7 @@ impl Session {
     {
         let reply = match command {
             Command::Order(kind) => return self.start_over(tables, kind),
+            Command::Admit => return self.admit(tables),
             Command::Close => return self.close(tables),
             Command::Draw(pairs) => Reply::Answered(self.order.draw(pairs.as_slice())),
             Command::Below { a, b } => Reply::Answered(yes_no(self.order.below(a, b))),

@@ -1,18 +1,22 @@
 // The network that a session has, by its state.
 ghost use Rattle.std.specs.Prelude.{◌≡◌};
-ghost use Rattle.session.specs.Holding.{state_of, fault_answer, LoadsHere, ClosesHere, StartsOver};
+ghost use Rattle.answer.specs.declared.answer.Answer.TheVariants as answer;
+ghost use Rattle.session.specs.Holding.{state_of, load_fault_answer, fault_answer, LoadsHere, AdmitsHere, ClosesHere, StartsOver};
 
+use super::standing::Standing;
 use answer::{Answer, State};
 use layout::{Tables, blank};
-use tables::{Blank, Draft, LoadFault, close, load};
+use rules::{Fault, Live};
+use tables::{Blank, Draft, LoadFault, load};
 
 pub enum Holding {
     Blank(Blank),
     Draft(Draft),
+    Live(Live),
 }
 
-fn refused(fault: LoadFault) -> Answer
-    ensures answer { result ≡ fault_answer fault }
+fn load_refused(fault: LoadFault) -> Answer
+    ensures answer { result ≡ load_fault_answer fault }
 {
     let number = fault.number();
     match fault {
@@ -27,6 +31,27 @@ fn refused(fault: LoadFault) -> Answer
     }
 }
 
+// A breach of shape is told as rule 0.
+fn refused(fault: Fault) -> Answer
+    ensures answer { result ≡ fault_answer fault }
+{
+    let number = fault.number();
+    match fault {
+        Fault::Shape(place) => Answer::BreachRefused {
+            number,
+            table: u32::from(place.table),
+            row: place.row,
+            rule: 0,
+        },
+        Fault::Rule(breach) => Answer::BreachRefused {
+            number,
+            table: u32::from(breach.table),
+            row: breach.row,
+            rule: breach.rule.number(),
+        },
+    }
+}
+
 impl Holding {
     pub(crate) fn state(&self) -> State
         ensures answer { result ≡ state_of self.now }
@@ -34,7 +59,16 @@ impl Holding {
         match self {
             Holding::Blank(_) => State::Blank,
             Holding::Draft(_) => State::Draft,
+            Holding::Live(_) => State::Live,
         }
+    }
+
+    // The command does not fit the state.
+    fn not_now(self) -> (Holding, Answer)
+        ensures answer { result ≡ (self, answer.NotNow (state_of self)) }
+    {
+        let state = self.state();
+        (self, Answer::NotNow(state))
     }
 
     pub(crate) fn load(self, tables: &mut Tables, sheet: &[u8]) -> (Holding, Answer)
@@ -42,10 +76,22 @@ impl Holding {
     {
         match self {
             Holding::Blank(blank) => match load(blank, tables, sheet) {
-                Ok((draft, lines)) => (Holding::Draft(draft), Answer::Count { lines }),
-                Err((blank, fault)) => (Holding::Blank(blank), refused(fault)),
+                Ok((draft, count)) => (Holding::Draft(draft), Answer::Count { count }),
+                Err((blank, fault)) => (Holding::Blank(blank), load_refused(fault)),
             },
-            Holding::Draft(draft) => (Holding::Draft(draft), Answer::NotNow(State::Draft)),
+            other => other.not_now(),
+        }
+    }
+
+    pub(crate) fn admit(self, order: &Standing, tables: &Tables) -> (Holding, Answer)
+        ensures answer { AdmitsHere order.now self tables.now result.1 result.0 }
+    {
+        match self {
+            Holding::Draft(draft) => match order.admit(draft, tables) {
+                Ok((live, count)) => (Holding::Live(live), Answer::Count { count }),
+                Err((draft, fault)) => (Holding::Draft(draft), refused(fault)),
+            },
+            other => other.not_now(),
         }
     }
 
@@ -53,8 +99,9 @@ impl Holding {
         ensures answer { ClosesHere self tables.old result.1 result.0 tables.new }
     {
         match self {
-            Holding::Blank(blank) => (Holding::Blank(blank), Answer::NotNow(State::Blank)),
-            Holding::Draft(draft) => (Holding::Blank(close(draft, tables)), Answer::Ok),
+            Holding::Draft(draft) => (Holding::Blank(tables::close(draft, tables)), Answer::Ok),
+            Holding::Live(live) => (Holding::Blank(rules::close(live, tables)), Answer::Ok),
+            other => other.not_now(),
         }
     }
 
@@ -68,7 +115,8 @@ impl Holding {
                 *tables = blank();
                 Holding::Blank(kept)
             }
-            Holding::Draft(draft) => Holding::Blank(close(draft, tables)),
+            Holding::Draft(draft) => Holding::Blank(tables::close(draft, tables)),
+            Holding::Live(live) => Holding::Blank(rules::close(live, tables)),
         }
     }
 
@@ -80,6 +128,9 @@ impl Holding {
             }
             Holding::Draft(draft) => {
                 draft.spend();
+            }
+            Holding::Live(live) => {
+                live.spend();
             }
         }
     }
