@@ -1,0 +1,5 @@
+pub mod Disabling
+pub mod Enabling
+pub mod Nesting
+pub mod Opening
+pub mod Recolouring

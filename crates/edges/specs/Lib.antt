@@ -1,0 +1,5 @@
+pub mod Disabling
+pub mod Edges
+pub mod EdgeLaws
+pub mod Enabling
+pub mod Paths
