@@ -2,4 +2,5 @@ pub mod Disabling
 pub mod Enabling
 pub mod Nesting
 pub mod Opening
+pub mod Reaching
 pub mod Recolouring

@@ -1,3 +1,4 @@
+pub mod Counting
 pub mod Disabling
 pub mod Edges
 pub mod EdgeLaws

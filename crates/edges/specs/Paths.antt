@@ -1,6 +1,6 @@
 -- Which edges a path finds, in words. `below a b` reads "role a is at or below role b".
-use Rattle.std.specs.Prelude.{◌≡◌, ℕ, ◌-◌, ◌<◌, ◌≤◌, Bool, ◌&&◌, List, length, ◌==◌, nat_le, slice_index_or}
-use Rattle.order.specs.RoleSets.{SetBelow, set_below}
+use Rattle.std.specs.Prelude.{◌≡◌, ℕ, ◌-◌, ◌<◌, ◌≤◌, Bool, false, List, length, Decides, slice_index_or}
+use Rattle.order.specs.RoleSets.{SetBelow}
 use Rattle.rows.specs.declared.row.PathStepRow.{PathStepRow}
 use Rattle.rows.specs.declared.row.TreeLine.{TreeLine}
 use Rattle.layout.specs.Network.{TreeLines}
@@ -29,9 +29,7 @@ pub record Found (below : ℕ → ℕ → Bool) (path : List PathStepRow) (tree 
   pub own : Complies below path (line tree i)
   pub over : (j : ℕ) → Over tree j i → Complies below path (line tree j)
 
--- ---- the test of one edge
-
-abbrev pub complies : (ℕ → ℕ → Bool) → List PathStepRow → TreeLine → Bool
-complies below path x =
-    (nat_le 1 x.depth && nat_le x.depth (length path))
-    && ((step_at path x.depth).label == x.label && set_below below x.set (step_at path x.depth).set)
+-- flags for the lines of the tree, set for those that the path finds
+pub record Flagged (below : ℕ → ℕ → Bool) (path : List PathStepRow) (tree : TreeLines) (flags : List Bool) : Type 0 where
+  pub each : (i : ℕ) → i < length tree → Decides (slice_index_or flags i false) (Found below path tree i)
+  pub beyond : (i : ℕ) → length tree ≤ i → slice_index_or flags i false ≡ false

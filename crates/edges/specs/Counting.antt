@@ -1,0 +1,12 @@
+-- How a pass over the lines of a tree counts the steps of a path that are met, line by line.
+use Rattle.std.specs.Prelude.{◌≡◌, ℕ, ◌+◌, ◌<◌, ◌≤◌, Bool, List}
+use Rattle.rows.specs.declared.row.PathStepRow.{PathStepRow}
+use Rattle.rows.specs.declared.row.TreeLine.{TreeLine}
+use Rattle.edges.specs.Paths.{Complies}
+
+-- so many steps are met above the edge, and so many down to it
+pub data StepsMet (below : ℕ → ℕ → Bool) (path : List PathStepRow) (met : ℕ) (x : TreeLine) (after : ℕ) : Type 0 where
+  -- an edge above it is not met
+  astray : met + 1 < x.depth → after ≡ met → StepsMet below path met x after
+  here : x.depth ≤ met + 1 → Complies below path x → after ≡ x.depth → StepsMet below path met x after
+  missed : x.depth ≤ met + 1 → (Complies below path x → ⊥) → after + 1 ≡ x.depth → StepsMet below path met x after

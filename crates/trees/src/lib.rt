@@ -1,0 +1,6 @@
+// What a step does to a tree: which edges a path finds, and enabling and disabling a role below them.
+#![tactic(auto)]
+
+mod paths;
+
+pub use paths::Path;
