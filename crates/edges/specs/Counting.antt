@@ -1,5 +1,6 @@
 -- How a pass over the lines of a tree counts the steps of a path that are met, line by line.
-use Rattle.std.specs.Prelude.{◌≡◌, ℕ, ◌+◌, ◌<◌, ◌≤◌, Bool, List}
+use Rattle.std.specs.Prelude.{◌≡◌, ℕ, ◌+◌, ◌<◌, ◌≤◌, Bool, List, length}
+use Rattle.order.specs.RoleSets.{with_role}
 use Rattle.rows.specs.declared.row.PathStepRow.{PathStepRow}
 use Rattle.rows.specs.declared.row.TreeLine.{TreeLine}
 use Rattle.edges.specs.Paths.{Complies}
@@ -10,3 +11,8 @@ pub data StepsMet (below : ℕ → ℕ → Bool) (path : List PathStepRow) (met 
   astray : met + 1 < x.depth → after ≡ met → StepsMet below path met x after
   here : x.depth ≤ met + 1 → Complies below path x → after ≡ x.depth → StepsMet below path met x after
   missed : x.depth ≤ met + 1 → (Complies below path x → ⊥) → after + 1 ≡ x.depth → StepsMet below path met x after
+
+-- the set of an edge after a role is enabled, where so many steps are met above it: directly below an edge found, or elsewhere
+pub data EnabledSet (path : List PathStepRow) (role met : ℕ) (x : TreeLine) (set : ℕ) : Type 0 where
+  added : length path ≤ met → x.depth ≡ length path + 1 → set ≡ with_role x.set role → EnabledSet path role met x set
+  unchanged : (length path ≤ met → x.depth ≡ length path + 1 → ⊥) → set ≡ x.set → EnabledSet path role met x set
