@@ -1,5 +1,9 @@
+pub mod DisabledLines
 pub mod Disabling
+pub mod EnabledLines
 pub mod Enabling
+pub mod FoundLines
+pub mod KeptRoles
 pub mod Nesting
 pub mod Opening
 pub mod Reaching

@@ -1,2 +1,0 @@
-pub mod EnabledLines
-pub mod FoundLines

@@ -1,4 +1,4 @@
-use Rattle.trees.proofs.EnabledLines.{enabled_none, enabled_turn, enabled_all}
+use Rattle.edges.proofs.EnabledLines.{enabled_none, enabled_turn, enabled_all}
 use Rattle.trees.proofs.paths.Path.enable.Goals as goal
 
 pub loop-i-init : goal.loop-i-init

@@ -1,4 +1,4 @@
-use Rattle.trees.proofs.EnabledLines.{EnabledTo}
+use Rattle.edges.proofs.EnabledLines.{EnabledTo}
 use Rattle.trees.proofs.paths.Path.enable.Given as goal
 
 abbrev pub invariant-loop-i : goal.invariant-loop-i

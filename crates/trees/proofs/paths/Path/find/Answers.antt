@@ -1,6 +1,6 @@
 use Rattle.std.proofs.Common.{arith}
 use Rattle.edges.proofs.Reaching.{reached_next}
-use Rattle.trees.proofs.FoundLines.{finding_none, finding_next, found_all}
+use Rattle.edges.proofs.FoundLines.{finding_none, finding_next, found_all}
 use Rattle.trees.proofs.paths.Path.find.Goals as goal
 
 pub loop-i-init : goal.loop-i-init

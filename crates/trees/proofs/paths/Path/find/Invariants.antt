@@ -1,4 +1,4 @@
-use Rattle.trees.proofs.FoundLines.{Finding}
+use Rattle.edges.proofs.FoundLines.{Finding}
 use Rattle.trees.proofs.paths.Path.find.Given as goal
 
 abbrev pub invariant-loop-i : goal.invariant-loop-i
