@@ -16,16 +16,16 @@ use Rattle.edges.proofs.Nesting.{Open, some_above, above_open}
 use Rattle.edges.proofs.Reaching.{Reached, reached_none, reached_next, under_found, found_under}
 
 -- t: the tree at the start; now: the tree with the lines before i done; left: what is left on the last edge of each depth
-pub record DisabledTo (below : ℕ → ℕ → Bool) (path : List PathStepRow) (role : ℕ) (t : TreeLines) (depths i met : ℕ) (left : List ℕ) (now : TreeLines) : Type 0 where
+pub record DisabledTo (below : ℕ → ℕ → Bool) (path : List PathStepRow) (role : ℕ) (t : TreeLines) (most i met : ℕ) (left : List ℕ) (now : TreeLines) : Type 0 where
   pub long : length now ≡ length t
-  pub rooms : length left ≡ depths
+  pub rooms : length left ≡ most + 1
   pub reached : Reached below path t i met
   pub done : (k : ℕ) → k < i → DisabledLine below path role t now k
   pub rest : (k : ℕ) → i ≤ k → line now k ≡ line t k
   pub lasts : (k : ℕ) → k < i → Open t k i → get_or left (line t k).depth 0 ≡ (line now k).set
 
-module _ (below : ℕ → ℕ → Bool) (path : List PathStepRow) (role : ℕ) (t : TreeLines) (depths : ℕ) where
-  pub disabled_none : (met : ℕ) (left : List ℕ) → length left ≡ depths → DisabledTo below path role t depths 0 met left t
+module _ (below : ℕ → ℕ → Bool) (path : List PathStepRow) (role : ℕ) (t : TreeLines) (most : ℕ) where
+  pub disabled_none : (met : ℕ) (left : List ℕ) → length left ≡ most + 1 → DisabledTo below path role t most 0 met left t
   disabled_none met left e = record {
     long = refl;
     rooms = e;
@@ -44,8 +44,8 @@ module _ (below : ℕ → ℕ → Bool) (path : List PathStepRow) (role : ℕ) (
       (get_or-set_other now i k x line0 (λ q. omega arith)
       ∙ subst (λ (y : TreeLine). line now k ≡ with_set (line t k) (kept (stays below role y.set) (line t k).set)) (sym there) e)
 
-  module _ (w : Nested t) (some : 0 < length path) (deep : (i : ℕ) → i < length t → (line t i).depth < depths) where
-    disabled_line : (i met : ℕ) (left : List ℕ) (now : TreeLines) (s : ℕ) → i < length t → DisabledTo below path role t depths i met left now
+  module _ (w : Nested t) (some : 0 < length path) (deep : (i : ℕ) → i < length t → (line t i).depth ≤ most) where
+    disabled_line : (i met : ℕ) (left : List ℕ) (now : TreeLines) (s : ℕ) → i < length t → DisabledTo below path role t most i met left now
         → DisabledSet below path role met (get_or left ((line t i).depth - 1) 0) (line t i) s
         → DisabledLine below path role t (set now i (with_set (line t i) s)) i
     disabled_line i met left now s h done (spared n e) =
@@ -64,9 +64,9 @@ module _ (below : ℕ → ℕ → Bool) (path : List PathStepRow) (role : ℕ) (
         ∙ ap (λ (n : ℕ). with_set (line t i) n)
         (e ∙ ap (λ (n : ℕ). kept (stays below role n) (line t i).set) (above ∙ sym (ap (λ (y : TreeLine). y.set) there))))
 
-    disabled_next : (i met met' : ℕ) (left : List ℕ) (now : TreeLines) (s : ℕ) → i < length t → DisabledTo below path role t depths i met left now
+    disabled_next : (i met met' : ℕ) (left : List ℕ) (now : TreeLines) (s : ℕ) → i < length t → DisabledTo below path role t most i met left now
         → Reached below path t (i + 1) met' → DisabledSet below path role met (get_or left ((line t i).depth - 1) 0) (line t i) s
-        → DisabledTo below path role t depths (i + 1) met' (set left (line t i).depth s) (set now i (with_set (line t i) s))
+        → DisabledTo below path role t most (i + 1) met' (set left (line t i).depth s) (set now i (with_set (line t i) s))
     disabled_next i met met' left now s h d r e =
         let x = with_set (line t i) s in
         record {
@@ -92,15 +92,15 @@ module _ (below : ℕ → ℕ → Bool) (path : List PathStepRow) (role : ℕ) (
         }
 
     -- one turn of the loop
-    pub disabled_turn : (i met met' : ℕ) (left : List ℕ) (now : TreeLines) (s : ℕ) → i < length t → DisabledTo below path role t depths i met left now
+    pub disabled_turn : (i met met' : ℕ) (left : List ℕ) (now : TreeLines) (s : ℕ) → i < length t → DisabledTo below path role t most i met left now
         → DisabledSet below path role met (get_or left ((line now i).depth - 1) 0) (line now i) s → StepsMet below path met (line now i) met'
-        → DisabledTo below path role t depths (i + 1) met' (set left (line now i).depth s) (set now i (with_set (line now i) s))
+        → DisabledTo below path role t most (i + 1) met' (set left (line now i).depth s) (set now i (with_set (line now i) s))
     disabled_turn i met met' left now s h d e m =
         let same = d.rest i (omega arith) in
         let old = subst (λ (x : TreeLine). DisabledSet below path role met (get_or left (x.depth - 1) 0) x s) same e in
         let counted = subst (λ (x : TreeLine). StepsMet below path met x met') same m in
-        subst (λ (x : TreeLine). DisabledTo below path role t depths (i + 1) met' (set left x.depth s) (set now i (with_set x s))) (sym same)
+        subst (λ (x : TreeLine). DisabledTo below path role t most (i + 1) met' (set left x.depth s) (set now i (with_set x s))) (sym same)
         (disabled_next i met met' left now s h d (reached_next below path t w i met h d.reached met' counted) old)
 
-  pub disabled_all : (i met : ℕ) (left : List ℕ) (now : TreeLines) → length t ≤ i → DisabledTo below path role t depths i met left now → Disabled below path role t now
+  pub disabled_all : (i met : ℕ) (left : List ℕ) (now : TreeLines) → length t ≤ i → DisabledTo below path role t most i met left now → Disabled below path role t now
   disabled_all i met left now h d = record { long = d.long; each = λ k l. d.done k (omega arith) }
