@@ -1,0 +1,10 @@
+// What a change may paste: contents whose slots fit, and that obey the policy of the place.
+#![tactic(auto)]
+
+mod fitting;
+mod place;
+mod templates;
+
+pub use fitting::content_fits;
+pub use place::{Place, least_of};
+pub use templates::template_lines;
