@@ -1,4 +1,5 @@
 pub mod DisabledLines
+pub mod CopiedLines
 pub mod Disabling
 pub mod EnabledLines
 pub mod Enabling

@@ -3,4 +3,5 @@ pub mod Disabling
 pub mod Edges
 pub mod EdgeLaws
 pub mod Enabling
+pub mod Matching
 pub mod Paths
