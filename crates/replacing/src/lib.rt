@@ -1,0 +1,2 @@
+// What a change leaves of a tree: definitions and their laws. Crate `changes` has the code.
+#![tactic(auto)]
