@@ -5,6 +5,7 @@ pub mod EnabledLines
 pub mod Enabling
 pub mod FoundLines
 pub mod KeptRoles
+pub mod Matched
 pub mod Nesting
 pub mod Opening
 pub mod Reaching

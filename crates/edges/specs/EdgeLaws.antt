@@ -1,14 +1,17 @@
 -- What the layers above may use of paths, enabling and disabling, for every lawful order of roles.
-use Rattle.std.specs.Prelude.{ℕ, ◌^◌, ◌<◌, Bool, true, ◌⊎◌, List, length, ◌≢◌}
+use Rattle.std.specs.Prelude.{◌≡◌, ℕ, ◌+◌, ◌-◌, ◌^◌, ◌<◌, Bool, true, ◌⊎◌, List, length, ◌≢◌}
 use Rattle.order.specs.Laws.{Lawful}
 use Rattle.order.specs.RoleSets.{In, SetBelow, Opens}
 use Rattle.rows.specs.declared.row.PathStepRow.{PathStepRow}
 use Rattle.rows.specs.declared.row.JobRow.{JobRow}
-use Rattle.layout.specs.Network.{TreeLines}
-use Rattle.obeying.specs.Rules.{line, Above, TreeObeys}
+use Rattle.layout.specs.Network.{TreeLines, Plan}
+use Rattle.meaning.specs.declared.patterns.Pattern.TheVariants as pattern
+use Rattle.obeying.specs.Rules.{line, Above, TreeObeys, Matches}
+use Rattle.obeying.specs.TreeLaws.{at_depth, under}
 use Rattle.standing.specs.declared.sizes.Sizes.{Sizes}
 use Rattle.standing.specs.Words.{TreeStands}
 use Rattle.edges.specs.Edges.{Nested, Over, Recoloured}
+use Rattle.edges.specs.Matching.{EdgeMatches}
 use Rattle.edges.specs.Paths.{last_set, Found}
 use Rattle.edges.specs.Enabling.{Enabled}
 use Rattle.edges.specs.Disabling.{Disabled}
@@ -54,3 +57,16 @@ pub record DisablingLaws : Type 0 where
   -- and no set grows
   pub shrinks : (below : ℕ → ℕ → Bool) (path : List PathStepRow) (role : ℕ) (tree after : TreeLines) → Disabled below path role tree after
       → (i x : ℕ) → i < length tree → (line tree i).set < 2 ^ 64 → In x (line after i).set → In x (line tree i).set
+
+-- what a tree pattern matches is open to all roles that its second set is ≤ to
+pub record MatchingLaws : Type 0 where
+  -- each edge of a tree that matches
+  pub whole : (count top : ℕ) (below : ℕ → ℕ → Bool) → Lawful count top below → (least : ℕ) (jobs : List JobRow) (policy first second : ℕ) (tree : TreeLines) (roles : ℕ)
+      → Matches below least jobs policy first second tree → SetBelow below second roles → roles ≢ 0 → (k : ℕ) → k < length tree → Opens below (line tree k).set roles
+  -- and so each edge under one whose tree matches
+  pub beneath : (count top : ℕ) (below : ℕ → ℕ → Bool) → Lawful count top below → (p : Plan) (slot policy first second : ℕ) (tree : TreeLines) (i roles : ℕ)
+      → EdgeMatches below p (pattern.Tree slot policy first second) tree i → SetBelow below second roles → roles ≢ 0
+      → (k : ℕ) → k < length tree → Over tree i k → Opens below (line tree k).set roles
+  -- what lies under an edge is what that edge is over
+  pub lies : (tree : TreeLines) (i k : ℕ) → k < length tree → Over tree i k
+      → (k - (i + 1) < length (under tree i)) × (line (under tree i) (k - (i + 1)) ≡ at_depth (line tree k) ((line tree k).depth - (line tree i).depth))

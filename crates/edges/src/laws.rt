@@ -1,5 +1,5 @@
 // The laws of edges, paths, enabling and disabling, for the layers above.
-ghost use Rattle.edges.specs.EdgeLaws.{OverLaws, Access, EnablingLaws, DisablingLaws};
+ghost use Rattle.edges.specs.EdgeLaws.{OverLaws, Access, EnablingLaws, DisablingLaws, MatchingLaws};
 
 // The edges over an edge are the one above it and those over that.
 pub fn edges_keep_their_laws()
@@ -19,4 +19,9 @@ pub fn enabling_keeps_its_laws()
 // A tree obeys and stands after a role was disabled, where the top role is not at or below it.
 pub fn disabling_keeps_its_laws()
     ensures laws { DisablingLaws }
+{}
+
+// What a tree pattern matches is open to the roles that its second set is ≤ to.
+pub fn patterns_open()
+    ensures laws { MatchingLaws }
 {}
