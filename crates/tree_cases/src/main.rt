@@ -1,0 +1,16 @@
+// The worked cases of trees: as theorems in one table, and run against the code.
+#![tactic(auto)]
+
+ghost use Rattle.tree_cases.specs.Worked.{TreeCases};
+
+use std::io;
+
+// The worked cases hold of the definitions that the contracts are stated with.
+pub fn tree_cases_hold()
+    ensures cases { TreeCases }
+{}
+
+fn main(rt: HostRuntime) -> io::Result<()> {
+    tree_cases_hold();
+    println!(rt; "trees")
+}
