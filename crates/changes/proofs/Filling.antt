@@ -1,10 +1,13 @@
 -- A template put line by line, its slots filled.
-use Rattle.std.proofs.Common.{◌≡◌, ℕ, ◌+◌, ◌<◌, eqb, length, drop, sym, ap, ◌∙◌, subst, arith}
+use Rattle.std.proofs.Common.{◌≡◌, ℕ, zero, suc, ◌+◌, ◌<◌, ◌≤◌, eqb, List, [], ◌∷◌, length, drop, sym, ap, ◌∙◌, subst, arith}
 use Rattle.std.proofs.lemmas.Bool.{cond_both}
 use Rattle.std.proofs.lemmas.List.{drop_more}
 use Rattle.rows.specs.declared.row.TreeLine.{TreeLine}
+use Rattle.rows.specs.declared.row.TemplateRow.{TemplateRow}
 use Rattle.layout.specs.Network.{TreeLines}
-use Rattle.layout.specs.Zeros.{line0}
+use Rattle.layout.specs.Zeros.{line0, template0}
+use Rattle.scan.specs.Scan.{Each}
+use Rattle.pasting.specs.Templates.{template_lines}
 use Rattle.obeying.specs.Rules.{line}
 use Rattle.obeying.specs.TreeLaws.{at_depth, lowered}
 use Rattle.outcomes.specs.declared.outcome.Outcome.{Outcome}
@@ -29,3 +32,15 @@ filled_turn hold levels i t o o' w h e a =
     ap (λ (p : Outcome). added_all p rest) a
     ∙ (sym (added_append o piece rest)
     ∙ (sym (ap (λ (xs : TreeLines). added_all o (lowered levels (filled hold xs))) (drop_more t i line0 h) ∙ ap (added_all o) (lowered_filled levels hold (line t i) (drop (i + 1) t))) ∙ e))
+
+-- the lines of a template are no deeper than those of all templates
+low_next : (most : ℕ) (x : TreeLine) (xs : TreeLines) → x.depth ≤ most → Shallow most xs → Shallow most (x ∷ xs)
+low_next most x xs d s zero h = d
+low_next most x xs d s (suc i) h = s i (omega arith)
+
+pub template_low : (most : ℕ) (rows : List TemplateRow) → Each (λ row. row.line.depth ≤ most) template0 rows → (k : ℕ) → Shallow most (template_lines rows k)
+template_low most [] e k = λ i h. absurd (omega arith)
+template_low most (row ∷ rows) e k =
+    cond_both (eqb row.template k) (row.line ∷ template_lines rows k) (template_lines rows k) (Shallow most)
+    (λ t. low_next most row.line (template_lines rows k) (e 0 (omega arith)) (template_low most rows (λ i h. e (suc i) (omega arith)) k))
+    (λ t. template_low most rows (λ i h. e (suc i) (omega arith)) k)

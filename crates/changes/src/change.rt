@@ -2,7 +2,9 @@
 ghost use Rattle.std.specs.Prelude.{◌≡◌, ℕ, ◌<◌, ◌≤◌, length, slice_index_or, false, Decides};
 ghost use Rattle.layout.specs.Held.{in_use};
 ghost use Rattle.layout.specs.Network.{TreeLines};
+ghost use Rattle.layout.specs.Zeros.{template0};
 ghost use Rattle.obeying.specs.Rules.{line};
+ghost use Rattle.scan.specs.Scan.{Each};
 ghost use Rattle.outcomes.specs.Outcomes.{added_all, outcome_of};
 ghost use Rattle.pasting.specs.Templates.{template_lines};
 ghost use Rattle.replacing.specs.Pasting.{placed, holding, given};
@@ -102,7 +104,7 @@ impl Change<'_> {
     // asks it of trees that stand.
     pub fn apply(&self, tree: &[TreeLine], flags: &[bool; 128]) -> Outcome
         requires shallow { (k : ℕ) → Shallow 500 (held self.now.slots.now k).under }
-        requires low { (k : ℕ) → Shallow 500 (template_lines (in_use self.now.templates.now) k) }
+        requires low { Each (λ row. row.line.depth ≤ 500) template0 (in_use self.now.templates.now) }
         requires few { length tree.now ≤ 128 }
         requires near { Shallow 500 tree.now }
         ensures says { (after : TreeLines) × Changed flags.now (given self.now.content (held self.now.slots.now) self.now.own (in_use self.now.templates.now) tree.now) tree.now after × (result ≡ outcome_of after) }

@@ -2,6 +2,7 @@ use Rattle.std.proofs.Common.{arith}
 use Rattle.layout.specs.Held.{in_use}
 use Rattle.replacing.specs.Pasting.{given}
 use Rattle.changes.specs.Pastes.{held}
+use Rattle.changes.proofs.Filling.{template_low}
 use Rattle.changes.proofs.Cutting.{changed_none, changed_turn, changed_all}
 use Rattle.changes.proofs.change.Change.apply.Goals as goal
 
@@ -10,6 +11,9 @@ loop-row-init c =
     let s = c.args.self.now in
     let give = given s.content (held s.slots.now) s.own (in_use s.templates.now) c.args.tree.now in
     changed_none c.args.flags.now give c.args.tree.now c.empty-out.result c.empty-out.ensures.answer
+
+pub put_line-cut-requires-clause-low : goal.put_line-cut-requires-clause-low
+put_line-cut-requires-clause-low c = template_low 500 (in_use c.args.self.now.templates.now) c.requires.low
 
 pub loop-row-preserved : goal.loop-row-preserved
 loop-row-preserved c =
