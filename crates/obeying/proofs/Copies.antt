@@ -53,7 +53,7 @@ module _ {below : ℕ → ℕ → Bool} {least : ℕ} {jobs : List JobRow} {poli
 
 -- ---- what lies under a line
 
-deep_line : (d : ℕ) (xs : TreeLines) (k : ℕ) → k < length (deeper_than d xs)
+pub deep_line : (d : ℕ) (xs : TreeLines) (k : ℕ) → k < length (deeper_than d xs)
     → (k < length xs) × (d < (line xs k).depth) × (line (deeper_than d xs) k ≡ at_depth (line xs k) ((line xs k).depth - d))
 deep_line d [] k h = absurd (omega arith)
 deep_line d (x ∷ xs) k h = go (ltb d x.depth) refl k (λ m. deep_line d xs m) h

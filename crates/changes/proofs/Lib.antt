@@ -1,0 +1,3 @@
+pub mod Cutting
+pub mod Filling
+pub mod Lying

@@ -1,0 +1,12 @@
+pub mod DisabledLines
+pub mod CopiedLines
+pub mod Disabling
+pub mod EnabledLines
+pub mod Enabling
+pub mod FoundLines
+pub mod KeptRoles
+pub mod Matched
+pub mod Nesting
+pub mod Opening
+pub mod Reaching
+pub mod Recolouring

@@ -1,0 +1,7 @@
+pub mod Counting
+pub mod Disabling
+pub mod Edges
+pub mod EdgeLaws
+pub mod Enabling
+pub mod Matching
+pub mod Paths

@@ -1,0 +1,4 @@
+pub mod Keeping
+pub mod Lowering
+pub mod Sound
+pub mod Standing

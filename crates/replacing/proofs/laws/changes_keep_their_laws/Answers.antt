@@ -1,0 +1,5 @@
+use Rattle.replacing.proofs.Sound.{change_laws}
+use Rattle.replacing.proofs.laws.changes_keep_their_laws.Goals as goal
+
+pub returns : goal.returns
+returns c = record { laws = change_laws }

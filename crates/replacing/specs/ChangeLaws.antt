@@ -1,0 +1,36 @@
+-- What the layers above may use of changes, for every lawful order of roles.
+use Rattle.std.specs.Prelude.{ℕ, ◌<◌, ◌≤◌, Bool, List, length}
+use Rattle.order.specs.RoleSets.{SetBelow}
+use Rattle.rows.specs.declared.row.JobRow.{JobRow}
+use Rattle.layout.specs.Network.{TreeLines}
+use Rattle.obeying.specs.Rules.{line, TreeObeys, Matches}
+use Rattle.obeying.specs.TreeLaws.{under}
+use Rattle.standing.specs.declared.sizes.Sizes.{Sizes}
+use Rattle.standing.specs.Words.{TreeStands}
+use Rattle.replacing.specs.Pasting.{Pasted, filled}
+use Rattle.replacing.specs.Changing.{Flagged, Uncut, Changed}
+use Rattle.replacing.specs.Sound.{Sound, PasteSound, TemplateSound}
+
+pub record ChangeLaws : Type 0 where
+  -- a tree that stands and obeys is sound
+  pub sound : (below : ℕ → ℕ → Bool) (s : Sizes) (least : ℕ) (jobs : List JobRow) (policy : ℕ) (tree : TreeLines)
+      → TreeStands s tree → TreeObeys below least jobs policy tree → Sound below s least jobs policy tree
+  -- and a sound tree stands where it is not too deep
+  pub stands : (below : ℕ → ℕ → Bool) (s : Sizes) (least : ℕ) (jobs : List JobRow) (policy : ℕ) (tree : TreeLines)
+      → ((i : ℕ) → i < length tree → (line tree i).depth ≤ 12) → Sound below s least jobs policy tree → TreeStands s tree
+  -- what lies under an edge of a sound tree is sound
+  pub part : (below : ℕ → ℕ → Bool) (s : Sizes) (least : ℕ) (jobs : List JobRow) (policy : ℕ) (tree : TreeLines) (i : ℕ)
+      → Sound below s least jobs policy tree → Sound below s least jobs policy (under tree i)
+  -- a tree that a tree pattern matches may lie on an edge whose set is ≤ the pattern's first set
+  pub matched : (below : ℕ → ℕ → Bool) (s : Sizes) (least : ℕ) (jobs : List JobRow) (policy : ℕ) (tree : TreeLines) (top all set : ℕ)
+      → Sound below s least jobs policy tree → Matches below least jobs policy top all tree → SetBelow below set top
+      → PasteSound below s least jobs policy set (record { content = 0; first = 0; second = 0; under = tree })
+  -- a template with its slots filled may lie on an edge whose set is ≤ the sets of its top lines
+  pub filled : (below : ℕ → ℕ → Bool) (s : Sizes) (least : ℕ) (jobs : List JobRow) (policy : ℕ) (hold : ℕ → Pasted) (set : ℕ) (template : TreeLines)
+      → TemplateSound below s least jobs policy hold set template
+      → PasteSound below s least jobs policy set (record { content = 0; first = 0; second = 0; under = filled hold template })
+  -- a sound tree is sound after a change, where each edge that is replaced gets what may lie on it
+  pub change : (below : ℕ → ℕ → Bool) (s : Sizes) (least : ℕ) (jobs : List JobRow) (policy : ℕ) (flags : List Bool) (given : ℕ → Pasted) (tree after : TreeLines)
+      → Sound below s least jobs policy tree
+      → ((i : ℕ) → i < length tree → Flagged flags i → Uncut flags tree i → PasteSound below s least jobs policy (line tree i).set (given i))
+      → Changed flags given tree after → Sound below s least jobs policy after

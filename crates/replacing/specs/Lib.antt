@@ -1,0 +1,4 @@
+pub mod ChangeLaws
+pub mod Changing
+pub mod Pasting
+pub mod Sound

@@ -1,0 +1,101 @@
+// Which edges a pattern matches.
+ghost use Rattle.std.specs.Prelude.{◌≡◌, ◌<◌, ◌≤◌, length, Decides, Some};
+ghost use Rattle.layout.specs.Network.{network};
+ghost use Rattle.slots.specs.Operands.{last_set};
+ghost use Rattle.obeying.specs.Rules.{line, Matches};
+ghost use Rattle.obeying.specs.TreeLaws.{under};
+ghost use Rattle.pasting.specs.Words.{least_of};
+ghost use Rattle.edges.specs.Matching.{JobOf, LocationOf, EdgeMatches};
+
+use super::copies::copy_under;
+use layout::Tables;
+use meaning::{ContentKind, Pattern};
+use obeying::{Policy, TreePattern};
+use order::{Order, RoleSet};
+use pasting::least_of;
+use rows::TreeLine;
+use slots::last_set;
+
+// Whether there is such a job, and it is of the policy.
+fn job_of(tables: &Tables, policy: u32, job: u32) -> bool
+    ensures says { Decides result (JobOf (network tables.now).plan policy job) }
+{
+    match tables.jobs.in_use().get(job as usize) {
+        Some(job) => job.policy == policy,
+        None => false,
+    }
+}
+
+fn location_of(tables: &Tables, policy: u32, location: u32) -> bool
+    ensures says { Decides result (LocationOf (network tables.now).plan policy location) }
+{
+    match tables.locations.in_use().get(location as usize) {
+        Some(location) => location.policy == policy,
+        None => false,
+    }
+}
+
+// Whether the last set of the path is this one.
+fn path_ends(tables: &Tables, path: u32, last: RoleSet) -> bool
+    ensures says { Decides result (last_set (network tables.now).plan.steps path ≡ Some last) }
+{
+    last_set(tables.steps.in_use(), path) == Some(last)
+}
+
+// Whether what lies under the edge of this row matches a tree pattern.
+fn under_matches<O: Order>(
+    order: &O,
+    tables: &Tables,
+    policy: u32,
+    top: RoleSet,
+    all: RoleSet,
+    tree: &[TreeLine],
+    row: usize,
+) -> bool
+    requires inside { row < length tree.now }
+    requires few { length tree.now ≤ 128 }
+    ensures says { Decides result (Matches (O.below order.now) (least_of (network tables.now).plan policy) (network tables.now).plan.jobs policy top all (under tree.now row)) }
+{
+    let policy = Policy {
+        order,
+        number: policy,
+        least: least_of(tables, policy),
+        jobs: tables.jobs.in_use(),
+    };
+    let copy = copy_under(tree, row);
+    TreePattern { policy, top, all }.matches(copy.in_use())
+}
+
+// Whether the pattern matches the edge of this row. A crate above asks it of trees of a location.
+pub fn edge_matches<O: Order>(
+    order: &O,
+    tables: &Tables,
+    pattern: Pattern,
+    tree: &[TreeLine],
+    row: usize,
+) -> bool
+    requires inside { row < length tree.now }
+    requires few { length tree.now ≤ 128 }
+    ensures says { Decides result (EdgeMatches (O.below order.now) (network tables.now).plan pattern tree.now row) }
+{
+    let line = tree[row];
+    match (pattern, ContentKind::try_from(line.content)) {
+        (Pattern::Number { .. }, Ok(ContentKind::Number)) => true,
+        (Pattern::Script { policy, .. }, Ok(ContentKind::Script)) => job_of(
+            tables, policy, line.first,
+        ),
+        (Pattern::Pointer { policy, last, .. }, Ok(ContentKind::Pointer)) => {
+            location_of(tables, policy, line.second) && path_ends(tables, line.first, last)
+        }
+        (
+            Pattern::Tree {
+                policy,
+                top,
+                all,
+                ..
+            },
+            Ok(ContentKind::Tree),
+        ) => under_matches(order, tables, policy, top, all, tree, row),
+        _ => false,
+    }
+}
