@@ -1,8 +1,7 @@
 -- The tables after what a step leaves is written to them.
-use Rattle.std.proofs.Common.{◌≡◌, ℕ, ◌<◌, zero, suc, ◌≤◌, min, List, [], ◌∷◌, length, map, get_or, take, set, replicate, None, refl, sym, ap, ◌∙◌, inl, inr, arith}
-use Rattle.std.proofs.lemmas.Bool.{cases_eq}
+use Rattle.std.proofs.Common.{◌≡◌, ℕ, zero, suc, ◌≤◌, min, List, [], ◌∷◌, length, map, get_or, set, None, sym, ap, ◌∙◌, arith}
 use Rattle.std.proofs.lemmas.Bool.Decides.{nat_tests}
-use Rattle.std.proofs.lemmas.List.{length-map, length-set, map-set, take_all, get_or-set_same}
+use Rattle.std.proofs.lemmas.List.{length-map, length-set, map-set, take_all}
 use Rattle.layout.specs.declared.held.Table.{Table}
 use Rattle.layout.specs.declared.memory.Tables.{Tables}
 use Rattle.layout.specs.Held.{pad, held}

@@ -1,5 +1,5 @@
 -- What is kept of an aftermath tells each room.
-use Rattle.std.proofs.Common.{◌≡◌, ℕ, ◌<◌, ◌≤◌, min, Bool, ltb, length, map, ap, sym, ◌∙◌, arith}
+use Rattle.std.proofs.Common.{◌≡◌, min, ltb, length, ap, ◌∙◌}
 use Rattle.std.proofs.lemmas.List.{length-map}
 use Rattle.layout.specs.Network.{joined}
 use Rattle.outcomes.specs.Outcomes.{deepest}

@@ -1,6 +1,5 @@
 -- What a step leaves, before any room is counted; the rooms that are tried on it; and the network where all have room.
 use Rattle.std.specs.Prelude.{ℕ, cond, List, map, length, Some, None, Option, nat_lt, slice_set}
-use Rattle.rows.specs.declared.row.TreeLine.{TreeLine}
 use Rattle.layout.specs.declared.memory.RunningRow.{RunningRow}
 use Rattle.layout.specs.declared.memory.Tables.{Tables}
 use Rattle.layout.specs.Network.{Network, TreeLines, joined}

@@ -1,5 +1,5 @@
 // Rows that may be more than a table has room for.
-ghost use Rattle.std.specs.Prelude.{◌≡◌, ◌++◌, ◌∷◌, [], List};
+ghost use Rattle.std.specs.Prelude.{◌≡◌, ◌++◌, ◌∷◌, [], List, false};
 ghost use Rattle.rooms.specs.Filled.{filled_of};
 
 use layout::Table;
@@ -20,5 +20,13 @@ impl<T: Copy, const N: usize> Filled<T, N> {
         if self.table.push(row).is_err() {
             self.over = true;
         }
+    }
+}
+
+impl<T: Copy, const N: usize> From<Table<T, N>> for Filled<T, N> {
+    ghost from_gives = { λ table filled. filled ≡ record { table = table; over = false } };
+
+    fn from(table: Table<T, N>) -> Filled<T, N> {
+        Filled { table, over: false }
     }
 }
