@@ -61,7 +61,7 @@ added_outcome xs (y ∷ ys) =
 
 -- ---- the tree, where it has room
 
-few : (room : ℕ) (xs : TreeLines) → length xs ≤ room → take room (xs ++ replicate room line0) ≡ pad room line0 xs
+pub few : (room : ℕ) (xs : TreeLines) → length xs ≤ room → take room (xs ++ replicate room line0) ≡ pad room line0 xs
 few room xs h = same_lists _ _ (search (rules, places)) (λ k d l. grind (arith, places))
 
 pub there : (o : Outcome) (xs : TreeLines) → o ≡ outcome_of xs → o.count ≤ 128

@@ -1,0 +1,3 @@
+pub mod Filled
+pub mod Leaving
+pub mod Rooms

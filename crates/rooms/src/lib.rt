@@ -1,0 +1,13 @@
+// What a step leaves, before any room is counted, and the rooms that are tried on it.
+#![tactic(auto)]
+
+mod beginning;
+mod filled;
+mod leaving;
+mod room;
+mod scratch;
+
+pub use filled::Filled;
+pub use leaving::left;
+pub use room::Room;
+pub use scratch::Scratch;
