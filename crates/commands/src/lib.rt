@@ -4,7 +4,8 @@
 mod rule;
 mod rules;
 mod standing;
+mod works;
 
 pub use rule::CommandRule;
-pub use rules::Commands;
 pub use standing::Standing;
+pub use works::Commands;

@@ -5,24 +5,17 @@ ghost use Rattle.layout.specs.Network.{network};
 ghost use Rattle.layout.specs.Held.{in_use};
 ghost use Rattle.pasting.specs.Words.{least_of, ContentObeys};
 ghost use Rattle.pasting.specs.Tests.{content_obeys};
-ghost use Rattle.commands.specs.Rules.{goal_of, last_of, slots_after, used_set, EntryAsks, SlotsAsk, PathAsks, Open, PatternAsks, ContentAsks, wanted, GrantAsks, EnablingAsks, Asks, LowestBroken};
+ghost use Rattle.commands.specs.Rules.{slots_after, EntryAsks, SlotsAsk, PathAsks, Open, PatternAsks, ContentAsks, wanted, GrantAsks, EnablingAsks, Asks, LowestBroken};
 ghost use Rattle.commands.specs.Tests.{if_some, entry_passes, slots_pass, path_passes, opens_pattern, pattern_passes, content_passes, is_grant, granted, grant_passes, enabling_passes, broken};
 
 use super::rule::CommandRule;
 use super::standing::Standing;
-use layout::Tables;
-use meaning::{Content, Direction, Operand, Pattern, Verb};
+use super::works::Commands;
+use meaning::{Content, Direction, Pattern, Verb};
 use order::{Order, RoleSet, set_below, some_below};
 use pasting::{Place, content_fits, least_of};
 use rows::GrantRow;
-use slots::{Slots, destination, filled, path_set, pattern_at};
-
-// The commands of a network, under an order of roles.
-#[derive_where(Clone, Copy)]
-pub struct Commands<'a, O> {
-    pub order: &'a O,
-    pub tables: &'a Tables,
-}
+use slots::pattern_at;
 
 fn is_grant(standing: &Standing, direction: Direction, role: u32, grant: &GrantRow) -> bool
     ensures answer { result ≡ is_grant (wanted standing.now direction role) grant.now }
@@ -34,41 +27,6 @@ fn is_grant(standing: &Standing, direction: Direction, role: u32, grant: &GrantR
 }
 
 impl<O: Order> Commands<'_, O> {
-    // The policy of the location that the operand names.
-    fn goal_of(&self, standing: &Standing, location: Operand) -> Option<u32>
-        ensures answer { result ≡ goal_of (network self.now.tables.now).plan standing.now location }
-    {
-        let patterns = self.tables.patterns.in_use();
-        destination(
-            self.tables.locations.in_use(),
-            patterns,
-            &standing.slots,
-            location,
-        )
-    }
-
-    // The last set of the path that the operand names.
-    fn last_of(&self, standing: &Standing, path: Operand) -> Option<RoleSet>
-        ensures answer { result ≡ last_of (network self.now.tables.now).plan standing.now path }
-    {
-        let patterns = self.tables.patterns.in_use();
-        path_set(self.tables.steps.in_use(), patterns, &standing.slots, path)
-    }
-
-    // The last set of the path that the verb works by, if it works by one.
-    fn used_set(&self, standing: &Standing, verb: Verb) -> Option<RoleSet>
-        ensures answer { result ≡ used_set (network self.now.tables.now).plan standing.now verb }
-    {
-        match verb {
-            Verb::Fork { .. } | Verb::Go { .. } => None,
-            Verb::Run { path }
-            | Verb::Read { path, .. }
-            | Verb::Change { path, .. }
-            | Verb::Enable { path, .. }
-            | Verb::Disable { path, .. } => self.last_of(standing, path),
-        }
-    }
-
     // Whether roles may enter the policy, if there is one to enter.
     fn enters(&self, policy: Option<u32>, roles: RoleSet) -> bool
         ensures answer { result ≡ if_some policy (λ q. set_below (O.below self.now.order.now) (least_of (network self.now.tables.now).plan q) roles) }
@@ -107,13 +65,6 @@ impl<O: Order> Commands<'_, O> {
             | Verb::Enable { path, .. }
             | Verb::Disable { path, .. } => self.last_of(standing, path).is_some(),
         }
-    }
-
-    // The slots after the pattern of this row has filled its own.
-    fn slots_after(&self, standing: &Standing, pattern: u32) -> Slots
-        ensures answer { result ≡ slots_after (network self.now.tables.now).plan standing.now pattern }
-    {
-        filled(self.tables.patterns.in_use(), standing.slots, pattern)
     }
 
     fn path_passes(&self, standing: &Standing, verb: Verb) -> bool

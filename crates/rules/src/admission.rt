@@ -2,13 +2,14 @@
 ghost use Rattle.std.specs.Prelude.{◌≡◌, length, IfOk};
 ghost use Rattle.layout.specs.Held.{in_use};
 ghost use Rattle.layout.specs.Network.{network, stored, empty, Holds};
-ghost use Rattle.rules.specs.Admission.{draft_fault, answered, Decided};
+ghost use Rattle.rules.specs.Admission.{standing_fault, answered, Decided};
 
 use super::fault::Fault;
-use super::judging::draft_fault;
+use super::judging::standing_fault;
 use super::live::Live;
 use layout::Tables;
 use order::Order;
+use shape::Stage;
 use tables::{Blank, Draft};
 
 // A live network of the same tables, and how many jobs there are; or the first fault, and the draft is handed back. A network is
@@ -18,11 +19,11 @@ pub fn admit<O: Order>(
     tables: &Tables,
     order: &O,
 ) -> Result<(Live, usize), (Draft, Fault)>
-    ensures answer { result ≡ answered draft (length (in_use tables.now.jobs)) (draft_fault O.COUNT O.TOP (O.below order.now) tables.now) }
+    ensures answer { result ≡ answered draft (length (in_use tables.now.jobs)) (standing_fault O.COUNT O.TOP (O.below order.now) tables.now Stage.Draft) }
     ensures decided { Decided O.COUNT O.TOP (O.below order.now) tables.now result }
     ensures holds { IfOk result (λ live. Holds tables.now (network tables.now)) }
 {
-    match draft_fault(order, tables) {
+    match standing_fault(order, tables, Stage::Draft) {
         Some(fault) => Err((draft, fault)),
         None => {
             let (serial, _lines) = draft.spend();

@@ -1,8 +1,8 @@
 // The first fault of tables.
 ghost use Rattle.std.specs.Prelude.{◌≡◌, None, IfSome};
 ghost use Rattle.layout.specs.Network.{network, Holds};
-ghost use Rattle.shape.specs.declared.place.Stage.TheVariants.{Draft, Live};
-ghost use Rattle.rules.specs.Admission.{Admissible, Sound, draft_fault, live_fault, DraftBroken, LiveBroken};
+ghost use Rattle.breaches.specs.Words.{Ready};
+ghost use Rattle.rules.specs.Admission.{Stands, Sound, standing_fault, live_fault, StandingBroken, LiveBroken};
 
 use super::fault::Fault;
 use breaches::{rules_breach, running_breach};
@@ -10,15 +10,16 @@ use layout::Tables;
 use order::Order;
 use shape::{Stage, shape};
 
-// What keeps a draft from being admitted.
-pub(crate) fn draft_fault<O: Order>(order: &O, tables: &Tables) -> Option<Fault>
-    ensures answer { result ≡ draft_fault O.COUNT O.TOP (O.below order.now) tables.now }
-    ensures stands { result ≡ None → Admissible O.COUNT O.TOP (O.below order.now) tables.now }
-    ensures untold { Admissible O.COUNT O.TOP (O.below order.now) tables.now → result ≡ None }
-    ensures broken { IfSome result (DraftBroken O.COUNT O.TOP (O.below order.now) tables.now) }
+// What keeps a draft from being admitted, and what a live network is told before its running jobs.
+pub(crate) fn standing_fault<O: Order>(order: &O, tables: &Tables, stage: Stage) -> Option<Fault>
+    ensures answer { result ≡ standing_fault O.COUNT O.TOP (O.below order.now) tables.now stage }
+    ensures stands { result ≡ None → Stands O.COUNT O.TOP (O.below order.now) tables.now stage }
+    ensures untold { Stands O.COUNT O.TOP (O.below order.now) tables.now stage → result ≡ None }
+    ensures broken { IfSome result (StandingBroken O.COUNT O.TOP (O.below order.now) tables.now stage) }
     ensures holds { result ≡ None → Holds tables.now (network tables.now) }
+    ensures ready { result ≡ None → Ready (network tables.now) }
 {
-    if let Some(place) = shape::<O>(tables, Stage::Draft) {
+    if let Some(place) = shape::<O>(tables, stage) {
         return Some(Fault::Shape(place));
     }
     let breach = rules_breach(order, tables)?;
@@ -34,11 +35,8 @@ pub fn live_fault<O: Order>(order: &O, tables: &Tables) -> Option<Fault>
     ensures broken { IfSome result (LiveBroken O.COUNT O.TOP (O.below order.now) tables.now) }
     ensures holds { result ≡ None → Holds tables.now (network tables.now) }
 {
-    if let Some(place) = shape::<O>(tables, Stage::Live) {
-        return Some(Fault::Shape(place));
-    }
-    if let Some(breach) = rules_breach(order, tables) {
-        return Some(Fault::Rule(breach));
+    if let Some(fault) = standing_fault(order, tables, Stage::Live) {
+        return Some(fault);
     }
     let breach = running_breach(order, tables)?;
     Some(Fault::Rule(breach))
