@@ -16,7 +16,8 @@ use Rattle.breaches.specs.Rules.{number_of as rule_number}
 use Rattle.rules.specs.declared.fault.Fault.{Fault}
 use Rattle.rules.specs.declared.fault.Fault.TheVariants.{Shape, Rule}
 use Rattle.rules.specs.declared.live.Live.{Live}
-use Rattle.rules.specs.Admission.{draft_fault, answered}
+use Rattle.shape.specs.declared.place.Stage.TheVariants as stage
+use Rattle.rules.specs.Admission.{standing_fault, answered}
 use Rattle.answer.specs.declared.answer.Answer.{Answer}
 use Rattle.answer.specs.declared.answer.Answer.TheVariants as answer
 use Rattle.answer.specs.declared.answer.State.{State}
@@ -68,7 +69,7 @@ holding_admitted (Err r) = holding.Draft r.0
 
 -- the draft, held to the order in force
 abbrev pub admitted : Standing → Draft → Tables → Result (Live × ℕ) (Draft × Fault)
-admitted order d t = answered d (length (in_use t.jobs)) (draft_fault (count_of order) (top_of order) (meaning order) t)
+admitted order d t = answered d (length (in_use t.jobs)) (standing_fault (count_of order) (top_of order) (meaning order) t stage.Draft)
 
 -- a draft is admitted; there is none in blank tables, and a live network was admitted before
 abbrev pub AdmitsHere : Standing → Holding → Tables → Answer → Holding → Type 0
