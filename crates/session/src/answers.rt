@@ -18,8 +18,8 @@ use layout::Tables;
 use order::{Order, Role, RoleSet, opens, set_below};
 use poke::{Poke, Wrong, poke};
 use rights::Rights;
-use std::alloc::{AllocError, Global};
 use rules::{Fault, Live};
+use std::alloc::{AllocError, Global};
 use tables::{Blank, Draft};
 use words::{Command, LineError, OrderKind, Sheet, Unclear, Why, read_line};
 
