@@ -1,0 +1,14 @@
+// The calls on a live network.
+#![tactic(auto)]
+
+mod auditing;
+mod denial;
+mod posting;
+mod recalling;
+mod showing;
+
+pub use auditing::audit;
+pub use denial::{Denial, Missing};
+pub use posting::post;
+pub use recalling::recall;
+pub use showing::show;
