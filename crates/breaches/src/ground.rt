@@ -17,9 +17,9 @@ ghost use Rattle.breaches.specs.Words.{TreeAtObeys};
 use super::breach::{Rule, RuleBreach};
 use super::judging::{Judge, first_told};
 use layout::{Table, TableKind, Tables};
-use obeying::{Policy, grant_breach};
+use obeying::grant_breach;
 use order::Order;
-use pasting::least_of;
+use pasting::policy_of;
 use rows::TreeLine;
 use sheet::LineKind;
 
@@ -53,22 +53,6 @@ struct Trees<'a, O> {
 }
 
 impl<O: Order> Trees<'_, O> {
-    // What trees of the location are held to.
-    fn policy(&self, location: usize) -> Policy<'_, O>
-        ensures order { result.order.now ≡ self.now.order.now }
-        ensures number { result.number ≡ policy_at (network self.now.tables.now).plan location }
-        ensures least { result.least ≡ least_of (network self.now.tables.now).plan (policy_at (network self.now.tables.now).plan location) }
-        ensures jobs { result.jobs.now ≡ in_use self.now.tables.now.jobs }
-    {
-        let number = policy_at(self.tables, location);
-        Policy {
-            order: self.order,
-            number,
-            least: least_of(self.tables, number),
-            jobs: self.tables.jobs.in_use(),
-        }
-    }
-
     fn tree_breach(&self, location: usize, before: usize, tree: &[TreeLine]) -> Option<RuleBreach>
         requires { before ≤ 2048 }
         ensures answer { result ≡ tree_told (O.below self.now.order.now) (network self.now.tables.now).plan before location tree.now }
@@ -76,7 +60,9 @@ impl<O: Order> Trees<'_, O> {
         ensures keeps { TreeAtObeys (O.below self.now.order.now) (network self.now.tables.now).plan location tree.now → result ≡ None }
         ensures breaks { IfSome result (TreeBroken (O.below self.now.order.now) (network self.now.tables.now).plan before location tree.now) }
     {
-        let breach = self.policy(location).breach(tree)?;
+        let number = policy_at(self.tables, location);
+        let policy = policy_of(self.order, self.tables, number);
+        let breach = policy.breach(tree)?;
         Some(RuleBreach {
             table: TableKind::Lines(LineKind::Edge),
             row: before + breach.row,

@@ -13,9 +13,9 @@ ghost use Rattle.matching.specs.Matching.{policy_at, ValueMatches, SlotMatches, 
 
 use super::shelves::{shelved, trees_on};
 use layout::{Slot, Tables};
-use obeying::{Policy, TreePattern};
+use obeying::TreePattern;
 use order::{Order, RoleSet};
-use pasting::least_of;
+use pasting::{has_job, policy_of};
 use slots::{Part, last_set, part_by};
 
 // The values that slots hold in these tables, under an order of roles.
@@ -26,16 +26,6 @@ pub struct Values<'a, O> {
 }
 
 impl<O: Order> Values<'_, O> {
-    fn is_script(&self, policy: u32, job: u32) -> bool
-        ensures answer { result ≡ has_job (in_use self.now.tables.now.jobs) policy job }
-        ensures says { Decides result ((job < length (in_use self.now.tables.now.jobs)) × (get_or (in_use self.now.tables.now.jobs) job job0).policy ≡ policy) }
-    {
-        match self.tables.jobs.in_use().get(job as usize) {
-            Some(row) => row.policy == policy,
-            None => false,
-        }
-    }
-
     fn is_place(&self, policy: u32, location: u32) -> bool
         ensures answer { result ≡ has_place (in_use self.now.tables.now.locations) policy location }
         ensures says { Decides result ((location < length (in_use self.now.tables.now.locations)) × policy_at (network self.now.tables.now).plan location ≡ policy) }
@@ -65,12 +55,7 @@ impl<O: Order> Values<'_, O> {
         ensures top { result.top ≡ top }
         ensures all { result.all ≡ all }
     {
-        let policy = Policy {
-            order: self.order,
-            number: policy,
-            least: least_of(self.tables, policy),
-            jobs: self.tables.jobs.in_use(),
-        };
+        let policy = policy_of(self.order, self.tables, policy);
         TreePattern { policy, top, all }
     }
 
@@ -92,7 +77,7 @@ impl<O: Order> Values<'_, O> {
         ensures says { Decides result (ValueMatches (O.below self.now.order.now) (network self.now.tables.now).plan (network self.now.tables.now).shelf part value) }
     {
         match part {
-            Some(Part::Script { policy }) => self.is_script(policy, value),
+            Some(Part::Script { policy }) => has_job(self.tables, policy, value),
             Some(Part::Place { policy }) => self.is_place(policy, value),
             Some(Part::Route { last }) => self.is_route(last, value),
             Some(Part::Tree { policy, top, all }) => self.is_tree(policy, top, all, value),

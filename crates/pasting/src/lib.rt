@@ -3,8 +3,10 @@
 
 mod fitting;
 mod place;
+mod policies;
 mod templates;
 
 pub use fitting::content_fits;
-pub use place::{Place, least_of};
+pub use place::Place;
+pub use policies::{has_job, least_of, policy_of};
 pub use templates::template_lines;

@@ -11,23 +11,13 @@ ghost use Rattle.pasting.specs.Templates.{template_lines};
 ghost use Rattle.pasting.specs.Words.{least_of, PartObeys, LineObeys, TemplateObeys, ContentObeys};
 ghost use Rattle.pasting.specs.Tests.{part_obeys, line_obeys, template_obeys, has_job, content_obeys};
 
+use super::policies::{has_job, least_of, policy_of};
 use super::templates::template_lines;
 use layout::Tables;
 use meaning::{Content, ContentKind};
-use obeying::Policy;
 use order::{Order, RoleSet, set_below};
 use rows::TreeLine;
 use slots::{Part, Slots, part_at};
-
-// The least set of a policy; a policy that is not there has the empty set.
-pub fn least_of(tables: &Tables, policy: u32) -> RoleSet
-    ensures answer { result ≡ least_of (network tables.now).plan policy }
-{
-    match tables.policies.in_use().get(policy as usize) {
-        Some(row) => row.least,
-        None => 0,
-    }
-}
 
 // Where a change pastes: at a policy, with the slots as the change's pattern left them.
 #[derive_where(Clone, Copy)]
@@ -99,26 +89,14 @@ impl<O: Order> Place<'_, O> {
         true
     }
 
-    // The policy, as trees are held to it.
-    fn policy(&self) -> Policy<'_, O>
-        ensures order { result.order.now ≡ self.now.order.now }
-        ensures number { result.number ≡ self.now.policy }
-        ensures least { result.least ≡ least_of (network self.now.tables.now).plan self.now.policy }
-        ensures jobs { result.jobs.now ≡ in_use self.now.tables.now.jobs }
-    {
-        Policy {
-            order: self.order,
-            number: self.policy,
-            least: least_of(self.tables, self.policy),
-            jobs: self.tables.jobs.in_use(),
-        }
-    }
-
     fn tree_obeys(&self, above: RoleSet, tree: &[TreeLine]) -> bool
         ensures answer { result ≡ template_obeys (O.below self.now.order.now) (network self.now.tables.now).plan self.now.policy above self.now.slots.now tree.now }
         ensures says { Decides result (TemplateObeys (O.below self.now.order.now) (network self.now.tables.now).plan self.now.policy above self.now.slots.now tree.now) }
     {
-        self.policy().breach(tree).is_none() && self.lines_obey(above, tree)
+        policy_of(self.order, self.tables, self.policy)
+            .breach(tree)
+            .is_none()
+            && self.lines_obey(above, tree)
     }
 
     fn template_obeys(&self, above: RoleSet, template: u32) -> bool
@@ -129,17 +107,6 @@ impl<O: Order> Place<'_, O> {
         self.tree_obeys(above, lines.in_use())
     }
 
-    // Whether the job that a script names is there, and of the policy.
-    fn script_obeys(&self, job: u32) -> bool
-        ensures answer { result ≡ has_job (in_use self.now.tables.now.jobs) self.now.policy job }
-        ensures says { Decides result ((job < length (in_use self.now.tables.now.jobs)) × (get_or (in_use self.now.tables.now.jobs) job job0).policy ≡ self.now.policy) }
-    {
-        match self.tables.jobs.in_use().get(job as usize) {
-            Some(row) => row.policy == self.policy,
-            None => false,
-        }
-    }
-
     // Whether the content obeys the policy under edges of the set. Any content may be asked about.
     pub fn obeys(&self, above: RoleSet, content: Content) -> bool
         ensures answer { result ≡ content_obeys (O.below self.now.order.now) (network self.now.tables.now).plan self.now.policy above self.now.slots.now content }
@@ -147,7 +114,7 @@ impl<O: Order> Place<'_, O> {
     {
         match content {
             Content::Tree | Content::Number(_) | Content::Pointer { .. } => true,
-            Content::Script { job } => self.script_obeys(job),
+            Content::Script { job } => has_job(self.tables, self.policy, job),
             Content::Held { slot } => self.slot_obeys(above, slot),
             Content::Template { template } => self.template_obeys(above, template),
         }
