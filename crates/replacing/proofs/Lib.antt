@@ -1,3 +1,5 @@
+pub mod AllLaws
+pub mod Contents
 pub mod Keeping
 pub mod Lowering
 pub mod Sound
