@@ -39,7 +39,7 @@ held_kind k f g slot e = go (eqb k 0) (eqb k 1) (eqb k 2) (eqb k 3) (eqb k 4) (e
   where
     go : (a b c d h t : Bool) → eqb k 4 ≡ h
         → cond a (when (eqb f 0 && eqb g 0) content.Tree) (cond b (when (eqb g 0) (content.Number f)) (cond c (when (eqb g 0) (content.Script f)) (cond d (Some (content.Pointer f g))
-          (cond h (when (eqb g 0) (content.Held f)) (cond t (when (eqb g 0) (content.Template f)) None))))) ≡ Some (content.Held slot) → k ≡ 4
+        (cond h (when (eqb g 0) (content.Held f)) (cond t (when (eqb g 0) (content.Template f)) None))))) ≡ Some (content.Held slot) → k ≡ 4
     go true b c d h t q e = let z = when_held (eqb f 0 && eqb g 0) content.Tree slot e in cc
     go false true c d h t q e = let z = when_held (eqb g 0) (content.Number f) slot e in cc
     go false false true d h t q e = let z = when_held (eqb g 0) (content.Script f) slot e in cc

@@ -4,3 +4,4 @@ pub mod Keeping
 pub mod Lowering
 pub mod Sound
 pub mod Standing
+pub mod Untouched

@@ -45,3 +45,6 @@ pub record ChangeLaws : Type 0 where
       → s.jobs ≡ length p.jobs → ContentStands s c → ((k : ℕ) → TemplateStands s (template_lines p.templates k)) → Holds below s p slots hold
       → ContentFits p slots c → ContentObeys below p policy above slots c → SetBelow below set above
       → PasteSound below s (least_of p policy) p.jobs policy set (pasted hold p.templates c)
+  -- a line that is not replaced, and lies under none that is, is still there
+  pub untouched : (flags : List Bool) (given : ℕ → Pasted) (tree after : TreeLines) → Changed flags given tree after
+      → (i : ℕ) → i < length tree → (Flagged flags i → ⊥) → Uncut flags tree i → (k : ℕ) × (k < length after) × (line after k ≡ line tree i)
