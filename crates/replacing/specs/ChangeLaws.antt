@@ -3,6 +3,7 @@ use Rattle.std.specs.Prelude.{◌≡◌, ℕ, ◌<◌, ◌≤◌, Bool, List, le
 use Rattle.order.specs.Laws.{Lawful}
 use Rattle.order.specs.RoleSets.{SetBelow}
 use Rattle.rows.specs.declared.row.JobRow.{JobRow}
+use Rattle.rows.specs.declared.row.TemplateRow.{TemplateRow}
 use Rattle.layout.specs.Network.{TreeLines, Plan}
 use Rattle.meaning.specs.declared.contents.Content.{Content}
 use Rattle.obeying.specs.Rules.{line, TreeObeys, Matches}
@@ -10,7 +11,7 @@ use Rattle.obeying.specs.TreeLaws.{under}
 use Rattle.pasting.specs.Templates.{template_lines}
 use Rattle.pasting.specs.Words.{least_of, ContentFits, ContentObeys}
 use Rattle.standing.specs.declared.sizes.Sizes.{Sizes}
-use Rattle.standing.specs.Words.{TreeStands, ContentStands}
+use Rattle.standing.specs.Words.{TreeStands, TemplatesStand, ContentStands}
 use Rattle.replacing.specs.Pasting.{Pasted, filled, pasted}
 use Rattle.replacing.specs.Changing.{Flagged, Uncut, Changed}
 use Rattle.replacing.specs.Holding.{Holds}
@@ -45,6 +46,8 @@ pub record ChangeLaws : Type 0 where
       → s.jobs ≡ length p.jobs → ContentStands s c → ((k : ℕ) → TemplateStands s (template_lines p.templates k)) → Holds below s p slots hold
       → ContentFits p slots c → ContentObeys below p policy above slots c → SetBelow below set above
       → PasteSound below s (least_of p policy) p.jobs policy set (pasted hold p.templates c)
+  -- where all templates stand, each one does
+  pub templates : (s : Sizes) (rows : List TemplateRow) → TemplatesStand s rows → (k : ℕ) → TemplateStands s (template_lines rows k)
   -- a line that is not replaced, and lies under none that is, is still there
   pub untouched : (flags : List Bool) (given : ℕ → Pasted) (tree after : TreeLines) → Changed flags given tree after
       → (i : ℕ) → i < length tree → (Flagged flags i → ⊥) → Uncut flags tree i → (k : ℕ) × (k < length after) × (line after k ≡ line tree i)
