@@ -1,16 +1,16 @@
 -- The lines of one template among those of all.
-use Rattle.std.proofs.Common.{◌≡◌, ℕ, zero, suc, ◌+◌, ◌<◌, ◌≤◌, Bool, true, false, cond, eqb, ◌⊎◌, List, [], ◌∷◌, length, get_or, sym, refl, ap, ◌∙◌, subst, inl, inr, ⊎_elim, add-one, arith}
+use Rattle.std.proofs.Common.{◌≡◌, ℕ, zero, suc, ◌+◌, ◌<◌, ◌≤◌, eqb, ◌⊎◌, List, [], ◌∷◌, length, get_or, sym, refl, ap, ◌∙◌, subst, inl, inr, ⊎_elim, add-one, arith}
 use Rattle.std.proofs.lemmas.Bool.{cases_eq, cases_lt, cond-true, cond-false, eq-eqb, ne_eqb}
 use Rattle.rows.specs.declared.row.TreeLine.{TreeLine}
 use Rattle.rows.specs.declared.row.TemplateRow.{TemplateRow}
 use Rattle.layout.specs.Network.{TreeLines}
-use Rattle.layout.specs.Zeros.{line0, template0}
+use Rattle.layout.specs.Zeros.{template0}
 use Rattle.obeying.specs.Rules.{line}
 use Rattle.pasting.specs.Templates.{template_lines}
 use Rattle.standing.specs.declared.sizes.Sizes.{Sizes}
 use Rattle.standing.specs.declared.lines.Home.TheVariants as home
 use Rattle.standing.specs.Words.{LineStands, TemplatesStand}
-use Rattle.replacing.specs.Sound.{Descends, TemplateStands}
+use Rattle.replacing.specs.Sound.{TemplateStands}
 
 abbrev row : List TemplateRow → ℕ → TemplateRow
 row rows i = get_or rows i template0

@@ -1,6 +1,8 @@
 -- What slots hold, where each holds what the pattern that filled it says.
 use Rattle.std.specs.Prelude.{◌≡◌, ℕ, ◌+◌, ◌<◌, Bool, List, Some, None, Option}
 use Rattle.layout.specs.Network.{TreeLines, Plan}
+use Rattle.meaning.specs.declared.patterns.Pattern.{Pattern}
+use Rattle.meaning.specs.declared.patterns.Pattern.TheVariants as pattern
 use Rattle.obeying.specs.Rules.{Matches}
 use Rattle.slots.specs.declared.part.Part.{Part}
 use Rattle.slots.specs.declared.part.Part.TheVariants as part
@@ -26,3 +28,17 @@ module _ (below : ℕ → ℕ → Bool) (s : Sizes) (p : Plan) where
 
   abbrev pub Holds : List ℕ → (ℕ → Pasted) → Type 0
   Holds slots hold = (k : ℕ) → HoldsPart (part_at p.patterns slots k) (part_at p.patterns slots (k + 1)) (hold k)
+
+-- the slot that a pattern fills, the first of two where it is a pointer's
+abbrev pub slot_of : Pattern → ℕ
+slot_of (pattern.Number slot) = slot
+slot_of (pattern.Script slot policy) = slot
+slot_of (pattern.Pointer slot policy last) = slot
+slot_of (pattern.Tree slot policy top all) = slot
+
+-- the slots that a pattern may fill: one of six, and two of them for a pointer
+abbrev pub InSlots : Pattern → Type 0
+InSlots (pattern.Number slot) = slot < 6
+InSlots (pattern.Script slot policy) = slot < 6
+InSlots (pattern.Pointer slot policy last) = slot < 5
+InSlots (pattern.Tree slot policy top all) = slot < 6
