@@ -7,8 +7,9 @@ ghost use Rattle.obeying.specs.Rules.{line};
 ghost use Rattle.scan.specs.Scan.{Each};
 ghost use Rattle.outcomes.specs.Outcomes.{added_all, outcome_of};
 ghost use Rattle.pasting.specs.Templates.{template_lines};
-ghost use Rattle.replacing.specs.Pasting.{placed, holding, given};
+ghost use Rattle.replacing.specs.Pasting.{placed, holding};
 ghost use Rattle.replacing.specs.Changing.{Changed};
+ghost use Rattle.changes.specs.Gives.{gives};
 ghost use Rattle.changes.specs.Pastes.{held, held_at};
 ghost use Rattle.changes.specs.Turns.{Shallow, CutAt, Turn};
 
@@ -20,7 +21,8 @@ use outcomes::Outcome;
 use rows::{TemplateRow, TreeLine};
 use trees::copy_under;
 
-// The content of a change, what the slots hold, and the slot that each edge's own content fills.
+// The content of a change, what the slots hold, and the slot that each edge's own content fills. No line that it puts may be
+// deeper than 500, which is far above the depth of any tree that stands, so that depths can be summed.
 #[derive(Clone, Copy)]
 pub struct Change<'a> {
     pub content: Content,
@@ -64,7 +66,7 @@ impl Change<'_> {
         requires inside { row < length tree.now }
         requires few { length tree.now ≤ 128 }
         requires near { Shallow 500 tree.now }
-        ensures after { out.new ≡ added_all out.old (placed (line tree.now row) (given self.now.content (held self.now.slots.now) self.now.own (in_use self.now.templates.now) tree.now row)) }
+        ensures after { out.new ≡ added_all out.old (placed (line tree.now row) (gives self.now tree.now row)) }
     {
         let copy = copy_under(tree, row);
         let slots = self.holding(tree[row], copy.in_use());
@@ -85,7 +87,7 @@ impl Change<'_> {
         requires inside { row < length tree.now }
         requires few { length tree.now ≤ 128 }
         requires near { Shallow 500 tree.now }
-        ensures says { Turn (slice_index_or flags.now row false) (given self.now.content (held self.now.slots.now) self.now.own (in_use self.now.templates.now) tree.now row) (line tree.now row) cut out.old out.new result }
+        ensures says { Turn (slice_index_or flags.now row false) (gives self.now tree.now row) (line tree.now row) cut out.old out.new result }
     {
         let depth = tree[row].depth;
         if is_cut(cut, depth) {
@@ -107,7 +109,7 @@ impl Change<'_> {
         requires low { Each (λ row. row.line.depth ≤ 500) template0 (in_use self.now.templates.now) }
         requires few { length tree.now ≤ 128 }
         requires near { Shallow 500 tree.now }
-        ensures says { (after : TreeLines) × Changed flags.now (given self.now.content (held self.now.slots.now) self.now.own (in_use self.now.templates.now) tree.now) tree.now after × (result ≡ outcome_of after) }
+        ensures says { (after : TreeLines) × Changed flags.now (gives self.now tree.now) tree.now after × (result ≡ outcome_of after) }
     {
         let mut out = Outcome::empty();
         let mut cut = None;

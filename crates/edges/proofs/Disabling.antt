@@ -15,7 +15,8 @@ use Rattle.obeying.specs.Rules.{line, Above, TreeObeys}
 use Rattle.obeying.proofs.Copies.{one_above}
 use Rattle.standing.specs.declared.sizes.Sizes.{Sizes}
 use Rattle.standing.specs.Words.{TreeStands}
-use Rattle.edges.specs.Edges.{Nested, with_set, Recoloured}
+use Rattle.edges.specs.Edges.{Nested, Over, with_set, Recoloured}
+use Rattle.edges.specs.Paths.{Found}
 use Rattle.edges.specs.Disabling.{stays, DisabledLine, under, elsewhere, Disabled}
 use Rattle.edges.specs.EdgeLaws.{DisablingLaws}
 use Rattle.edges.proofs.Nesting.{above_over, over_over}
@@ -105,8 +106,14 @@ module _ {below : ℕ → ℕ → Bool} {path : List PathStepRow} {role : ℕ} (
         filled : (i : ℕ) → i < length t → (line after i).set ≡ 0 → ⊥
         filled i h z = both_ways (has 0 s.top) (has-none s.top) (subst (λ (n : ℕ). In s.top n) z (tops (suc i) i (omega arith) h))
 
+untouched : (below : ℕ → ℕ → Bool) (path : List PathStepRow) (role : ℕ) (t after : TreeLines) (i : ℕ) → DisabledLine below path role t after i
+    → ((f : ℕ) → Found below path t f → Over t f i → ⊥) → line after i ≡ line t i
+untouched below path role t after i (under f j g v a e) n = absurd (n f g v)
+untouched below path role t after i (elsewhere m e) n = e
+
 pub disabling_laws : DisablingLaws
 disabling_laws = record {
+  untouched = λ below path role t after w i h n. untouched below path role t after i (w.each i h) n;
   recolours = λ below path role t after w. recolours t after w;
   stands = λ s below law path role t after safe w o. stands t after w s law safe o;
   obeys = λ count top below law least jobs policy path role t after nested w o. obeys t after w law nested o;

@@ -82,8 +82,14 @@ module _ {below : ℕ → ℕ → Bool} {path : List PathStepRow} (role : ℕ) (
             (subst (λ (y : TreeLine). SetBelow below y.set (with_role (line t i).set role)) (sym same)
             (set_union below (line t j).set (line t i).set (2 ^ role) (o.above i j h a) (to_role j g)))
 
+untouched : (below : ℕ → ℕ → Bool) (path : List PathStepRow) (role : ℕ) (t : TreeLines) (i : ℕ) (x : TreeLine) → EnabledLine below path role t i x
+    → ((j : ℕ) → Above t j i → Found below path t j → ⊥) → x ≡ line t i
+untouched below path role t i x (directly j a f e) n = absurd (n j a f)
+untouched below path role t i x (elsewhere m e) n = e
+
 pub enabling_laws : EnablingLaws
 enabling_laws = record {
+  untouched = λ below path role t after w i h n. untouched below path role t i (line after i) (w.each i h) n;
   recolours = λ below path role t after w. recolours role t after w;
   stands = λ below path role s t after h w o. stands role t s after h w o;
   obeys = λ count top below law least jobs policy path role t after a w o. obeys role t law a after w o;

@@ -10,3 +10,4 @@ pub mod Nesting
 pub mod Opening
 pub mod Reaching
 pub mod Recolouring
+pub mod SelectedLines

@@ -38,6 +38,9 @@ pub record Access : Type 0 where
 pub record EnablingLaws : Type 0 where
   -- labels, contents and depths stay
   pub recolours : (below : ℕ → ℕ → Bool) (path : List PathStepRow) (role : ℕ) (tree after : TreeLines) → Enabled below path role tree after → Recoloured tree after
+  -- an edge that is not directly below one found stays as it is
+  pub untouched : (below : ℕ → ℕ → Bool) (path : List PathStepRow) (role : ℕ) (tree after : TreeLines) → Enabled below path role tree after
+      → (i : ℕ) → i < length tree → ((j : ℕ) → Above tree j i → Found below path tree j → ⊥) → line after i ≡ line tree i
   -- a tree that stands still stands
   pub stands : (below : ℕ → ℕ → Bool) (path : List PathStepRow) (role : ℕ) (s : Sizes) (tree after : TreeLines)
       → role < s.roles → Enabled below path role tree after → TreeStands s tree → TreeStands s after
@@ -48,6 +51,9 @@ pub record EnablingLaws : Type 0 where
 
 pub record DisablingLaws : Type 0 where
   pub recolours : (below : ℕ → ℕ → Bool) (path : List PathStepRow) (role : ℕ) (tree after : TreeLines) → Disabled below path role tree after → Recoloured tree after
+  -- an edge that is not under one found stays as it is
+  pub untouched : (below : ℕ → ℕ → Bool) (path : List PathStepRow) (role : ℕ) (tree after : TreeLines) → Disabled below path role tree after
+      → (i : ℕ) → i < length tree → ((f : ℕ) → Found below path tree f → Over tree f i → ⊥) → line after i ≡ line tree i
   -- a tree that stands still stands, where the top role is not at or below the disabled one
   pub stands : (s : Sizes) (below : ℕ → ℕ → Bool) → Lawful s.roles s.top below → (path : List PathStepRow) (role : ℕ) (tree after : TreeLines)
       → below s.top role ≢ true → Disabled below path role tree after → TreeStands s tree → TreeStands s after

@@ -1,5 +1,6 @@
 -- Which edges a pattern matches, in words.
-use Rattle.std.specs.Prelude.{◌≡◌, ℕ, ◌<◌, Bool, length, Some, slice_index_or}
+use Rattle.std.specs.Prelude.{◌≡◌, ℕ, ◌<◌, ◌≤◌, Bool, false, List, length, Some, Decides, slice_index_or}
+use Rattle.rows.specs.declared.row.PathStepRow.{PathStepRow}
 use Rattle.layout.specs.Network.{TreeLines, Plan}
 use Rattle.layout.specs.Zeros.{location0, job0}
 use Rattle.meaning.specs.declared.kinds.ContentKind.TheVariants as kind
@@ -10,6 +11,7 @@ use Rattle.obeying.specs.Rules.{line, Matches}
 use Rattle.obeying.specs.TreeLaws.{under}
 use Rattle.slots.specs.Operands.{last_set}
 use Rattle.pasting.specs.Words.{least_of}
+use Rattle.edges.specs.Paths.{Found}
 
 -- there is such a job, and it is of the policy
 abbrev pub JobOf : Plan → ℕ → ℕ → Type 0
@@ -27,3 +29,8 @@ EdgeMatches below p (pattern.Pointer slot policy last) tree i =
     (kind_of (line tree i).content ≡ Some kind.Pointer) × (LocationOf p policy (line tree i).second × (last_set p.steps (line tree i).first ≡ Some last))
 EdgeMatches below p (pattern.Tree slot policy top all) tree i =
     (kind_of (line tree i).content ≡ Some kind.Tree) × Matches below (least_of p policy) p.jobs policy top all (under tree i)
+
+-- flags for the lines of the tree, set for those that the path finds and the pattern matches
+pub record Selected (below : ℕ → ℕ → Bool) (path : List PathStepRow) (p : Plan) (m : Pattern) (tree : TreeLines) (flags : List Bool) : Type 0 where
+  pub each : (i : ℕ) → i < length tree → Decides (slice_index_or flags i false) (Found below path tree i × EdgeMatches below p m tree i)
+  pub beyond : (i : ℕ) → length tree ≤ i → slice_index_or flags i false ≡ false

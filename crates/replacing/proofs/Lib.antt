@@ -1,4 +1,11 @@
+pub mod AllLaws
+pub mod Contents
+pub mod FilledSlots
+pub mod Granted
 pub mod Keeping
 pub mod Lowering
+pub mod OneTemplate
+pub mod Own
 pub mod Sound
 pub mod Standing
+pub mod Untouched

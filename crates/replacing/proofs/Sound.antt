@@ -18,7 +18,6 @@ use Rattle.edges.proofs.Nesting.{some_above}
 use Rattle.replacing.specs.Pasting.{Pasted, line_content, filled}
 use Rattle.replacing.specs.Changing.{Flagged, Uncut, Changed}
 use Rattle.replacing.specs.Sound.{ContentShaped, LineShaped, Descends, Sound, Tops, PasteSound, TemplateSound}
-use Rattle.replacing.specs.ChangeLaws.{ChangeLaws}
 use Rattle.replacing.proofs.Standing.{root, root_top, root_zero, room, room_of, room_deeper, room_most, Asks, Top, Stands, stands_from, top_from, low_from, above_from, each_from, first_from, next_from}
 use Rattle.replacing.proofs.Keeping.{depth_under, PasteStands, Fine, filled_stands, changed_stands}
 
@@ -105,7 +104,7 @@ module _ (below : ℕ → ℕ → Bool) (s : Sizes) (least : ℕ) (jobs : List J
   )
 
   -- the empty content, with a tree
-  paste_tree : (set : ℕ) (t : TreeLines) → Sound below s least jobs policy t → Tops below s least jobs policy set t
+  pub paste_tree : (set : ℕ) (t : TreeLines) → Sound below s least jobs policy t → Tops below s least jobs policy set t
       → PasteSound below s least jobs policy set (record { content = 0; first = 0; second = 0; under = t })
   paste_tree set t w top = record { content = (tt, tt); script = λ x e. absurd (omega arith); tree = w; top = top; bare = λ n. absurd (n refl) }
 
@@ -209,13 +208,3 @@ module _ (below : ℕ → ℕ → Bool) (s : Sizes) (least : ℕ) (jobs : List J
     down = w.descends.down;
     under = w.descends.under;
   }
-
-pub change_laws : ChangeLaws
-change_laws = record {
-  sound = sound;
-  stands = not_deep;
-  part = part;
-  matched = λ below s least jobs policy t top all set w m l. matched below s least jobs policy t top all set w m l;
-  filled = λ below s least jobs policy hold set t w. filled_sound below s least jobs policy hold set t w;
-  change = λ below s least jobs policy flags given t after w p c. changed_sound below s least jobs policy flags given t after w p c;
-}

@@ -10,7 +10,7 @@ use Rattle.obeying.specs.Rules.{line, ScriptObeys, TreeObeys}
 use Rattle.scan.specs.Scan.{Each}
 use Rattle.standing.specs.declared.sizes.Sizes.{Sizes}
 use Rattle.standing.specs.declared.lines.Home.TheVariants as home
-use Rattle.standing.specs.Words.{Means, Belongs, ContentStands}
+use Rattle.standing.specs.Words.{Means, Belongs, ContentStands, LineStands}
 use Rattle.replacing.specs.Pasting.{Pasted, with_content, line_content}
 
 -- the content can lie on an edge, and what it names exists
@@ -57,3 +57,8 @@ module _ (below : ℕ → ℕ → Bool) (s : Sizes) (least : ℕ) (jobs : List J
     pub obeys : TreeObeys below least jobs policy template
     pub top : Tops set template
     pub pastes : (i : ℕ) → i < length template → PasteSound (line template i).set (line_content hold (line template i))
+
+-- a template by its shape
+pub record TemplateStands (s : Sizes) (template : TreeLines) : Type 0 where
+  pub lines : Each (LineStands home.Template s) line0 template
+  pub descends : Descends template

@@ -14,7 +14,7 @@ use layout::Tables;
 use meaning::{Content, Pattern};
 use rows::{PathStepRow, PolicyRow, TemplateRow, TreeLine};
 use std::io;
-use trees::{Path, edge_matches};
+use trees::Path;
 
 // Whether no line of a template is too deep to be put into a tree.
 fn templates_are_low(rows: &[TemplateRow]) -> bool
@@ -54,10 +54,7 @@ fn changed(
     if tree.len() > 128 || !stands(tree) || !templates_are_low(tables.templates.in_use()) {
         return println!(rt; "  no tree");
     }
-    let mut flags = Path { order, steps }.find(tree);
-    for row in 0..tree.len() {
-        flags[row] = flags[row] && edge_matches(order, tables, pattern, tree, row);
-    }
+    let flags = Path { order, steps }.select(tables, pattern, tree);
     let slots = no_slots();
     let change = Change {
         content,

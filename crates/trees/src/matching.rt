@@ -1,13 +1,15 @@
 // Which edges a pattern matches.
-ghost use Rattle.std.specs.Prelude.{◌≡◌, ◌<◌, ◌≤◌, length, Decides, Some};
+ghost use Rattle.std.specs.Prelude.{◌≡◌, ◌<◌, ◌≤◌, length, Decides, Some, true};
 ghost use Rattle.layout.specs.Network.{network};
 ghost use Rattle.slots.specs.Operands.{last_set};
 ghost use Rattle.obeying.specs.Rules.{line, Matches};
 ghost use Rattle.obeying.specs.TreeLaws.{under};
 ghost use Rattle.pasting.specs.Words.{least_of};
-ghost use Rattle.edges.specs.Matching.{JobOf, LocationOf, EdgeMatches};
+ghost use Rattle.edges.specs.Edges.{Nested};
+ghost use Rattle.edges.specs.Matching.{JobOf, LocationOf, EdgeMatches, Selected};
 
 use super::copies::copy_under;
+use super::paths::Path;
 use layout::Tables;
 use meaning::{ContentKind, Pattern};
 use obeying::{Policy, TreePattern};
@@ -97,5 +99,37 @@ pub fn edge_matches<O: Order>(
             Ok(ContentKind::Tree),
         ) => under_matches(order, tables, policy, top, all, tree, row),
         _ => false,
+    }
+}
+
+impl<O: Order> Path<'_, O> {
+    // Whether the edge of this row is found, and the pattern matches it.
+    fn selects(
+        &self,
+        tables: &Tables,
+        pattern: Pattern,
+        tree: &[TreeLine],
+        found: bool,
+        row: usize,
+    ) -> bool
+        requires inside { row < length tree.now }
+        requires few { length tree.now ≤ 128 }
+        ensures says { Decides result ((found ≡ true) × EdgeMatches (O.below self.now.order.now) (network tables.now).plan pattern tree.now row) }
+    {
+        found && edge_matches(self.order, tables, pattern, tree, row)
+    }
+
+    // Flags for the lines of the tree, set for the edges that the path finds and the pattern matches. A crate above asks about trees
+    // that stand.
+    pub fn select(&self, tables: &Tables, pattern: Pattern, tree: &[TreeLine]) -> [bool; 128]
+        requires nested { Nested tree.now }
+        requires few { length tree.now ≤ 128 }
+        ensures says { Selected (O.below self.now.order.now) self.now.steps.now (network tables.now).plan pattern tree.now result }
+    {
+        let mut flags = self.find(tree);
+        for row in 0..tree.len() {
+            flags[row] = self.selects(tables, pattern, tree, flags[row], row);
+        }
+        flags
     }
 }
