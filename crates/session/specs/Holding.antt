@@ -23,7 +23,7 @@ use Rattle.answer.specs.declared.answer.Answer.TheVariants as answer
 use Rattle.answer.specs.declared.answer.State.{State}
 use Rattle.answer.specs.declared.answer.State.TheVariants as state
 use Rattle.session.specs.Orders.{meaning, count_of, top_of}
-use Rattle.session.specs.declared.standing.Standing.{Standing}
+use Rattle.session.specs.declared.between.Standing.{Standing}
 use Rattle.session.specs.declared.holding.Holding.{Holding}
 use Rattle.session.specs.declared.holding.Holding.TheVariants as holding
 

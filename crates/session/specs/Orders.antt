@@ -2,8 +2,8 @@
 use Rattle.std.specs.Prelude.{ℕ, Bool}
 use Rattle.drawn.specs.Rows.{rows_below}
 use Rattle.rights.specs.Bringing.{rights_below}
-use Rattle.session.specs.declared.standing.Standing.{Standing}
-use Rattle.session.specs.declared.standing.Standing.TheVariants as standing
+use Rattle.session.specs.declared.between.Standing.{Standing}
+use Rattle.session.specs.declared.between.Standing.TheVariants as standing
 
 -- what it means
 abbrev pub meaning : Standing → ℕ → ℕ → Bool

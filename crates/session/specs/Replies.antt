@@ -22,11 +22,11 @@ use Rattle.session.specs.Orders.{meaning}
 use Rattle.session.specs.Holding.{ClosesHere, AdmitsHere, StartsOver}
 use Rattle.session.specs.declared.holding.Holding.{Holding}
 use Rattle.session.specs.declared.holding.Holding.TheVariants as holding
-use Rattle.session.specs.declared.standing.Session.{Session}
-use Rattle.session.specs.declared.standing.Reply.{Reply}
-use Rattle.session.specs.declared.standing.Reply.TheVariants as reply
-use Rattle.session.specs.declared.standing.Standing.{Standing}
-use Rattle.session.specs.declared.standing.Standing.TheVariants as standing
+use Rattle.session.specs.declared.between.Session.{Session}
+use Rattle.session.specs.declared.between.Reply.{Reply}
+use Rattle.session.specs.declared.between.Reply.TheVariants as reply
+use Rattle.session.specs.declared.between.Standing.{Standing}
+use Rattle.session.specs.declared.between.Standing.TheVariants as standing
 
 -- the order drawn from these pairs is in force
 abbrev pub DrawnFrom : List (ℕ × ℕ) → Standing → Type 0

@@ -5,13 +5,13 @@ ghost use Rattle.answer.specs.declared.answer.Answer.{Answer};
 ghost use Rattle.answer.specs.declared.answer.Answer.TheVariants as answer;
 ghost use Rattle.words.specs.Saying.{given, said, asked_of};
 ghost use Rattle.session.specs.declared.holding.Holding.TheVariants as holding;
-ghost use Rattle.session.specs.declared.standing.Reply.TheVariants as reply;
+ghost use Rattle.session.specs.declared.between.Reply.TheVariants as reply;
 ghost use Rattle.session.specs.Orders.{meaning};
 ghost use Rattle.session.specs.Holding.{state_of, admitted, LoadsHere, AdmitsHere, ClosesHere, StartsOver};
 ghost use Rattle.session.specs.Replies.{yes_no, FreshOf, DrawnFrom, Draws, CallsToLoad, word_of, poke_answer, Answers, Turns};
 
+use super::between::{Reply, Session, Standing};
 use super::holding::Holding;
-use super::standing::{Reply, Session, Standing};
 use answer::{Answer, State};
 use drawn::Drawn;
 use layout::Tables;

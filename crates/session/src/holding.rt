@@ -3,7 +3,7 @@ ghost use Rattle.std.specs.Prelude.{◌≡◌};
 ghost use Rattle.answer.specs.declared.answer.Answer.TheVariants as answer;
 ghost use Rattle.session.specs.Holding.{state_of, load_fault_answer, fault_answer, LoadsHere, AdmitsHere, ClosesHere, StartsOver};
 
-use super::standing::Standing;
+use super::between::Standing;
 use answer::{Answer, State};
 use layout::{Tables, blank};
 use rules::{Fault, Live};

@@ -2,7 +2,7 @@
 #![tactic(auto)]
 
 mod answers;
+mod between;
 mod holding;
-mod standing;
 
-pub use standing::{Reply, Session};
+pub use between::{Reply, Session};

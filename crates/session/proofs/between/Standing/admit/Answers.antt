@@ -1,6 +1,6 @@
 use Rattle.std.proofs.Common.{sym, ap, ◌∙◌}
 use Rattle.session.specs.Holding.{admitted}
-use Rattle.session.proofs.standing.Standing.admit.Goals as goal
+use Rattle.session.proofs.between.Standing.admit.Goals as goal
 
 pub returns-in-Drawn : goal.returns-in-Drawn
 returns-in-Drawn c = record { answer = c.admit.ensures.answer ∙ sym (ap (λ s. admitted s c.args.draft c.args.tables.now) c.in-Drawn.is) }
