@@ -1,14 +1,15 @@
 -- The order drawn from the pair (1, 2) alone, and the worked cases.
 use Rattle.std.proofs.Common.{◌≡◌, ℕ, zero, suc, ◌<◌, Bool, true, false, eqb, ◌⊎◌, List, [], ◌∷◌, length, sym, refl, ◌∙◌, subst, inl, inr, ⊎_elim, arith, lit<}
 use Rattle.std.proofs.lemmas.Bool.{both_ways, eqb-true, or_cases}
-use Rattle.order.specs.RoleSets.{has, In, SomeBelow}
+use Rattle.order.specs.RoleSets.{has, In, SomeBelow, SetBelow}
 use Rattle.order.proofs.Bits.{has-none, has-insert}
 use Rattle.drawn.specs.Draws.{Least, Keeps}
 use Rattle.drawn.specs.Pairs.{only_top, joined}
 use Rattle.drawn.proofs.Fresh.{only_refl, only_trans, only_topmost}
 use Rattle.drawn.proofs.Joins.{join_keeps, join_trans}
 use Rattle.rights.specs.Bringing.{brought_to, rights_below}
-use Rattle.cases.specs.Worked.{roles, pairs, WorkedCases}
+use Rattle.obeying.specs.Rules.{line, Above, ScriptObeys, TreeObeys}
+use Rattle.cases.specs.Worked.{roles, pairs, branch, tree_m, WorkedCases}
 
 -- a role of a set that is written out is one of those written
 in_roles : (r : ℕ) (rs : List ℕ) (x : ℕ) → In x (roles (r ∷ rs)) → (r ≡ x) ⊎ In x (roles rs)
@@ -51,6 +52,58 @@ none_of_two below least r s y p q w =
     (of_two (λ x. one_pair x y ≡ false) r s p q w.0 w.1)
     (least.contained one_pair keeps_one_pair w.0 y w.2)
 
+-- ---- tree M
+
+module _ (below : ℕ → ℕ → Bool) (least : Least pairs below) where
+  by_1 : (y : ℕ) → In y (roles (0 ∷ 1 ∷ [])) → SomeBelow below (roles (1 ∷ [])) y
+  unfolding has
+  by_1 = of_two (λ y. SomeBelow below (roles (1 ∷ [])) y) 0 1 (1, refl, least.lawful.topmost 1 (lit< tt)) (1, refl, least.lawful.reflexive 1 (lit< tt))
+
+  by_1_up : (y : ℕ) → In y (roles (0 ∷ 2 ∷ [])) → SomeBelow below (roles (1 ∷ [])) y
+  unfolding has
+  by_1_up = of_two (λ y. SomeBelow below (roles (1 ∷ [])) y) 0 2 (1, refl, least.lawful.topmost 1 (lit< tt)) (1, refl, least.has_pairs 0 (lit< tt))
+
+  by_both : (y : ℕ) → In y (roles (0 ∷ 1 ∷ [])) → SomeBelow below (roles (0 ∷ 1 ∷ [])) y
+  unfolding has
+  by_both = of_two (λ y. SomeBelow below (roles (0 ∷ 1 ∷ [])) y) 0 1 (1, refl, least.lawful.topmost 1 (lit< tt)) (1, refl, least.lawful.reflexive 1 (lit< tt))
+
+  by_both_up : (y : ℕ) → In y (roles (0 ∷ 2 ∷ [])) → SomeBelow below (roles (0 ∷ 1 ∷ [])) y
+  unfolding has
+  by_both_up = of_two (λ y. SomeBelow below (roles (0 ∷ 1 ∷ [])) y) 0 2 (1, refl, least.lawful.topmost 1 (lit< tt)) (1, refl, least.has_pairs 0 (lit< tt))
+
+  m_obeys : TreeObeys below (roles (1 ∷ [])) [] 0 tree_m
+  m_obeys = record { least = each; above = under; scripts = none }
+    where
+      each : (i : ℕ) → i < 3 → SetBelow below (roles (1 ∷ [])) (line tree_m i).set
+      each zero h = by_1
+      each (suc zero) h = by_1_up
+      each (suc (suc zero)) h = by_1
+      each (suc (suc (suc i))) h = absurd (omega arith)
+
+      under : (i j : ℕ) → i < 3 → Above tree_m j i → SetBelow below (line tree_m j).set (line tree_m i).set
+      under zero j h a = absurd (omega (arith, a.before))
+      under (suc zero) zero h a = by_both_up
+      under (suc zero) (suc j) h a = absurd (omega (arith, a.before))
+      under (suc (suc zero)) zero h a = by_both
+      under (suc (suc zero)) (suc zero) h a = absurd (omega (arith, a.outer))
+      under (suc (suc zero)) (suc (suc j)) h a = absurd (omega (arith, a.before))
+      under (suc (suc (suc i))) j h a = absurd (omega arith)
+
+      none : (i : ℕ) → i < 3 → ScriptObeys [] 0 (line tree_m i)
+      none zero h e = absurd (omega arith)
+      none (suc zero) h e = absurd (omega arith)
+      none (suc (suc zero)) h e = absurd (omega arith)
+      none (suc (suc (suc i))) h e = absurd (omega arith)
+
+  alone_under : (smallest : ℕ) → TreeObeys below smallest [] 0 (branch 1 7 (roles (0 ∷ [])) ∷ branch 2 8 (roles (0 ∷ 2 ∷ [])) ∷ []) → ⊥
+  unfolding one_pair has
+  alone_under smallest w =
+      let some : SomeBelow below (roles (0 ∷ [])) 2 = w.above 1 0 (lit< tt) (record { before = lit< tt; outer = refl; nearest = λ k p q. absurd (omega arith) }) 2 refl in
+      ⊎_elim
+      (λ e. both_ways (one_pair 0 2) refl (subst (λ x. one_pair x 2 ≡ true) (sym e) (least.contained one_pair keeps_one_pair some.0 2 some.2)))
+      (λ none. absurd (in_none some.0 none))
+      (in_roles 0 [] some.0 some.1)
+
 pub worked_cases : WorkedCases
 unfolding one_pair has brought_to rights_below
 worked_cases = record {
@@ -63,4 +116,6 @@ worked_cases = record {
   every_role_is_asked = λ below least s. none_of_two below least 0 1 3 refl refl (s 3 refl);
   right_1_brings_right_0 = (refl, refl);
   right_3_is_not_under_right_4 = refl;
+  tree_m_obeys = m_obeys;
+  top_alone_over_2 = alone_under;
 }
