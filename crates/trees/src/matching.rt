@@ -6,28 +6,19 @@ ghost use Rattle.obeying.specs.Rules.{line, Matches};
 ghost use Rattle.obeying.specs.TreeLaws.{under};
 ghost use Rattle.pasting.specs.Words.{least_of};
 ghost use Rattle.edges.specs.Edges.{Nested};
-ghost use Rattle.edges.specs.Matching.{JobOf, LocationOf, EdgeMatches, Selected};
+ghost use Rattle.edges.specs.Matching.{LocationOf, EdgeMatches, Selected};
 
 use super::copies::copy_under;
 use super::paths::Path;
 use layout::Tables;
 use meaning::{ContentKind, Pattern};
-use obeying::{Policy, TreePattern};
+use obeying::TreePattern;
 use order::{Order, RoleSet};
-use pasting::least_of;
+use pasting::{has_job, policy_of};
 use rows::TreeLine;
 use slots::last_set;
 
-// Whether there is such a job, and it is of the policy.
-fn job_of(tables: &Tables, policy: u32, job: u32) -> bool
-    ensures says { Decides result (JobOf (network tables.now).plan policy job) }
-{
-    match tables.jobs.in_use().get(job as usize) {
-        Some(job) => job.policy == policy,
-        None => false,
-    }
-}
-
+// Whether there is such a location, and it is of the policy.
 fn location_of(tables: &Tables, policy: u32, location: u32) -> bool
     ensures says { Decides result (LocationOf (network tables.now).plan policy location) }
 {
@@ -58,12 +49,7 @@ fn under_matches<O: Order>(
     requires few { length tree.now ≤ 128 }
     ensures says { Decides result (Matches (O.below order.now) (least_of (network tables.now).plan policy) (network tables.now).plan.jobs policy top all (under tree.now row)) }
 {
-    let policy = Policy {
-        order,
-        number: policy,
-        least: least_of(tables, policy),
-        jobs: tables.jobs.in_use(),
-    };
+    let policy = policy_of(order, tables, policy);
     let copy = copy_under(tree, row);
     TreePattern { policy, top, all }.matches(copy.in_use())
 }
@@ -83,9 +69,9 @@ pub fn edge_matches<O: Order>(
     let line = tree[row];
     match (pattern, ContentKind::try_from(line.content)) {
         (Pattern::Number { .. }, Ok(ContentKind::Number)) => true,
-        (Pattern::Script { policy, .. }, Ok(ContentKind::Script)) => job_of(
-            tables, policy, line.first,
-        ),
+        (Pattern::Script { policy, .. }, Ok(ContentKind::Script)) => {
+            has_job(tables, policy, line.first)
+        }
         (Pattern::Pointer { policy, last, .. }, Ok(ContentKind::Pointer)) => {
             location_of(tables, policy, line.second) && path_ends(tables, line.first, last)
         }
