@@ -5,3 +5,4 @@ pub mod EdgeLaws
 pub mod Enabling
 pub mod Matching
 pub mod Paths
+pub mod Rows
