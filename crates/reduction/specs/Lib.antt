@@ -1,0 +1,4 @@
+pub mod Effects
+pub mod Filling
+pub mod Steps
+pub mod Values
