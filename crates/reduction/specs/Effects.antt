@@ -1,8 +1,7 @@
 -- What a step brings about: how many edges it finds, the job's successors, the trees that are put on the shelf, and the tree of the
 -- location after it.
-use Rattle.std.specs.Prelude.{ℕ, ◌+◌, cond, List, [], ◌∷◌, ◌++◌, map, length, replicate, ◌==◌, slice_index_or}
+use Rattle.std.specs.Prelude.{ℕ, ◌+◌, cond, List, [], ◌∷◌, ◌++◌, map, replicate, ◌==◌, slice_index_or}
 use Rattle.rows.specs.declared.row.JobRow.{JobRow}
-use Rattle.layout.specs.declared.memory.Slot.{Slot}
 use Rattle.layout.specs.declared.memory.RunningRow.{RunningRow}
 use Rattle.layout.specs.Network.{TreeLines, Plan, Network}
 use Rattle.layout.specs.Zeros.{job0, slot0}

@@ -1,4 +1,6 @@
+pub mod Access
 pub mod Effects
 pub mod Filling
+pub mod Soundness
 pub mod Steps
 pub mod Values

@@ -1,8 +1,8 @@
 -- A step of a running job, as a reduction: one rule for each verb. `below a b` reads "role a is at or below role b". What a step brings
 -- about is told before any room is counted.
-use Rattle.std.specs.Prelude.{◌≡◌, ℕ, Bool, cond, List, [], ◌++◌, length, Some, None, Option, ◌==◌}
+use Rattle.std.specs.Prelude.{◌≡◌, ℕ, Bool, cond, List, [], ◌++◌, length, Some, ◌==◌}
 use Rattle.layout.specs.declared.memory.RunningRow.{RunningRow}
-use Rattle.layout.specs.Network.{TreeLines, Plan, Network}
+use Rattle.layout.specs.Network.{TreeLines, Network}
 use Rattle.meaning.specs.declared.contents.Content.{Content}
 use Rattle.meaning.specs.declared.patterns.Pattern.{Pattern}
 use Rattle.meaning.specs.declared.verbs.Operand.{Operand}
