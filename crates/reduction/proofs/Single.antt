@@ -1,23 +1,22 @@
 -- Flags, trees after a change, and trees with other sets are told in one way only.
-use Rattle.std.proofs.Common.{◌≡◌, ℕ, zero, suc, ◌+◌, ◌<◌, ◌≤◌, Bool, true, false, cond, List, [], ◌∷◌, length, get_or, sym, refl, ap, ◌∙◌, subst, inl, inr, arith}
+use Rattle.std.proofs.Common.{◌≡◌, ℕ, zero, suc, ◌<◌, ◌≤◌, Bool, false, List, [], length, get_or, sym, ap, ◌∙◌, inl, inr, arith}
 use Rattle.std.specs.Bool.{Decides, one_answer}
 use Rattle.std.proofs.lemmas.Bool.{cases_lt}
-use Rattle.std.proofs.lemmas.List.{ext_get_or, length-append}
+use Rattle.std.proofs.lemmas.List.{ext_get_or}
 use Rattle.rows.specs.declared.row.PathStepRow.{PathStepRow}
 use Rattle.rows.specs.declared.row.TreeLine.{TreeLine}
 use Rattle.layout.specs.Network.{TreeLines, joined, Plan}
 use Rattle.layout.specs.Zeros.{line0}
 use Rattle.meaning.specs.declared.patterns.Pattern.{Pattern}
-use Rattle.obeying.specs.Rules.{line, Above}
+use Rattle.obeying.specs.Rules.{line}
 use Rattle.obeying.proofs.Copies.{one_above}
-use Rattle.edges.specs.Edges.{Over, with_set}
-use Rattle.edges.specs.Paths.{Found, Flagged}
-use Rattle.edges.specs.Matching.{EdgeMatches, Selected}
+use Rattle.edges.specs.Edges.{with_set}
+use Rattle.edges.specs.Paths.{Flagged}
+use Rattle.edges.specs.Matching.{Selected}
 use Rattle.edges.specs.Enabling as enabling
 use Rattle.edges.specs.Enabling.{EnabledLine, Enabled}
 use Rattle.edges.specs.Disabling as disabling
 use Rattle.edges.specs.Disabling.{stays, DisabledLine, Disabled}
-use Rattle.edges.specs.Rows.{rows_from, flagged_rows}
 use Rattle.replacing.specs.Pasting.{Pasted}
 use Rattle.replacing.specs.Changing.{Uncut, Becomes, cut, replaced, kept, Changed}
 use Rattle.order.specs.RoleSets.{kept as kept_roles}
@@ -31,8 +30,8 @@ flags_agree : {P : ℕ → Type 0} (long : ℕ) (f g : List Bool)
     → ((i : ℕ) → i < long → Decides (get_or f i false) (P i)) → ((i : ℕ) → long ≤ i → get_or f i false ≡ false)
     → ((i : ℕ) → i < long → Decides (get_or g i false) (P i)) → ((i : ℕ) → long ≤ i → get_or g i false ≡ false) → Agree f g
 flags_agree long f g a b c d i = elim (cases_lt i long) [
-    | inl h ↦ one_answer (get_or f i false) (get_or g i false) (a i h) (c i h)
-    | inr h ↦ b i h ∙ sym (d i h)
+  | inl h ↦ one_answer (get_or f i false) (get_or g i false) (a i h) (c i h)
+  | inr h ↦ b i h ∙ sym (d i h)
 ]
 
 pub flagged_agree : {below : ℕ → ℕ → Bool} {path : List PathStepRow} (t : TreeLines) (f g : List Bool) → Flagged below path t f → Flagged below path t g → Agree f g
@@ -67,8 +66,8 @@ module _ {below : ℕ → ℕ → Bool} {path : List PathStepRow} {role : ℕ} (
   first_lines : (n : ℕ) → n ≤ length t → (i : ℕ) → i < n → line a i ≡ line b i
   first_lines zero h i l = absurd (omega (arith, l))
   first_lines (suc n) h i l = elim (cases_lt i n) [
-      | inl m ↦ first_lines n (omega (arith, h)) i m
-      | inr m ↦ same_line i (λ j k. first_lines n (omega (arith, h)) j (omega (arith, k, l))) (v.each i (omega (arith, h, l))) (w.each i (omega (arith, h, l)))
+    | inl m ↦ first_lines n (omega (arith, h)) i m
+    | inr m ↦ same_line i (λ j k. first_lines n (omega (arith, h)) j (omega (arith, k, l))) (v.each i (omega (arith, h, l))) (w.each i (omega (arith, h, l)))
   ]
 
   pub same_disabled : a ≡ b
@@ -94,5 +93,5 @@ module _ (give : ℕ → Pasted) (t : TreeLines) (f g : List Bool) (agree : Agre
   pub same_changed : (a b : TreeLines) → Changed f give t a → Changed g give t b → a ≡ b
   same_changed a b v w =
       let pieces : v.pieces ≡ w.pieces = ext_get_or [] v.pieces w.pieces (v.one_each ∙ sym w.one_each)
-          (λ i h. same_piece i (get_or v.pieces i []) (get_or w.pieces i []) (v.each i (omega (arith, h, v.one_each))) (w.each i (omega (arith, h, v.one_each)))) in
+      (λ i h. same_piece i (get_or v.pieces i []) (get_or w.pieces i []) (v.each i (omega (arith, h, v.one_each))) (w.each i (omega (arith, h, v.one_each)))) in
       v.whole ∙ (ap joined pieces ∙ sym w.whole)
