@@ -15,7 +15,8 @@ use Rattle.layout.specs.Zeros.{running0, job0}
 use Rattle.layout.proofs.Pads.{held-push}
 use Rattle.rooms.specs.Leaving.{without}
 use Rattle.rooms.proofs.Closing.{no_longer}
-use Rattle.machine.specs.Calls.{with_running, started, to_post, after_post, after_recall}
+use Rattle.reduction.specs.Effects.{started}
+use Rattle.machine.specs.Calls.{with_running, to_post, after_post, after_recall}
 
 abbrev pub with_list : Tables → Table RunningRow 64 → Tables
 with_list t running = record {

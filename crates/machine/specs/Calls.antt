@@ -1,5 +1,5 @@
 -- What the calls on a live network answer, and the network after them, where its tables have shape.
-use Rattle.std.specs.Prelude.{ℕ, Bool, cond, List, [], ◌∷◌, ◌++◌, length, replicate, None, Some, Ok, Err, Option, Result, ◌==◌, nat_lt, slice_index_or}
+use Rattle.std.specs.Prelude.{ℕ, Bool, cond, List, [], ◌∷◌, ◌++◌, length, None, Some, Ok, Err, Option, Result, ◌==◌, nat_lt, slice_index_or}
 use Rattle.std.specs.List.{slice_get}
 use Rattle.order.specs.RoleSets.{opens_to}
 use Rattle.rows.specs.declared.row.JobRow.{JobRow}
@@ -7,10 +7,11 @@ use Rattle.rows.specs.declared.row.LocationRow.{LocationRow}
 use Rattle.rows.specs.declared.row.TreeLine.{TreeLine}
 use Rattle.layout.specs.declared.memory.RunningRow.{RunningRow}
 use Rattle.layout.specs.Network.{Network}
-use Rattle.layout.specs.Zeros.{job0, slot0}
+use Rattle.layout.specs.Zeros.{job0}
 use Rattle.shape.specs.declared.place.Place.{Place}
 use Rattle.rooms.specs.declared.room.Room.TheVariants.{RunningJobs}
 use Rattle.rooms.specs.Leaving.{without}
+use Rattle.reduction.specs.Effects.{started}
 use Rattle.machine.specs.declared.denial.Missing.TheVariants.{Position, Location, Job}
 use Rattle.machine.specs.declared.denial.Denial.{Denial}
 use Rattle.machine.specs.declared.denial.Denial.TheVariants as denial
@@ -25,10 +26,6 @@ abbrev pub with_running : Network → List RunningRow → Network
 with_running n running = record { plan = n.plan; trees = n.trees; running = running; shelf = n.shelf }
 
 -- ---- post
-
--- a job that starts at a location: with its own roles and command, and empty slots
-abbrev pub started : ℕ → JobRow → RunningRow
-started location j = record { location = location; roles = j.roles; command = j.command; slots = replicate 6 slot0 }
 
 -- the row of the job that is to start: the location is looked for first, then the job, then their policies are compared, then
 -- there has to be room

@@ -1,2 +1,4 @@
 pub mod Calls
 pub mod Denials
+pub mod Hosting
+pub mod Stepping

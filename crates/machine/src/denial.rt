@@ -2,6 +2,8 @@
 ghost use Rattle.std.specs.Prelude.{◌≡◌, Some};
 ghost use Rattle.machine.specs.Denials.{refusal, missing_words, denial_words};
 
+use commands::CommandRule;
+use layout::TableKind;
 use rooms::Room;
 use shape::Place;
 use std::error::Error;
@@ -34,6 +36,8 @@ pub enum Denial {
     Missing(Missing),
     // The job is not of the location's policy.
     OtherPolicy,
+    // A slot of the job at this position was not filled with what its command needs.
+    Unfit { position: usize },
     // A room is too small for what the call would leave.
     NoRoom(Room),
 }
@@ -44,7 +48,7 @@ impl Denial {
         ensures answer { result ≡ (refusal self.now).number }
     {
         match self {
-            Denial::Shape(_) => 11,
+            Denial::Shape(_) | Denial::Unfit { .. } => 11,
             Denial::Missing(_) => 8,
             Denial::OtherPolicy => 9,
             Denial::NoRoom(_) => 10,
@@ -63,6 +67,11 @@ impl fmt::Display for Denial {
             }
             Denial::Missing(missing) => write!(f, "no such {missing}"),
             Denial::OtherPolicy => f.write_str("the job is of another policy"),
+            Denial::Unfit { position } => {
+                let table = u32::from(TableKind::Running);
+                let rule = CommandRule::Slots.number();
+                write!(f, "table {table} row {position}: breaks rule {rule}")
+            }
             Denial::NoRoom(room) => write!(f, "no room {}", room.number()),
         }
     }

@@ -1,10 +1,10 @@
 // A job is started at a location.
-ghost use Rattle.std.specs.Prelude.{◌≡◌, length, MatchResult};
+ghost use Rattle.std.specs.Prelude.{◌≡◌, length};
 ghost use Rattle.std.specs.List.{slice_get};
-ghost use Rattle.layout.specs.Network.{network, Holds};
-ghost use Rattle.shape.specs.declared.place.Stage.TheVariants as stage;
-ghost use Rattle.shape.specs.Place.{first_place};
-ghost use Rattle.machine.specs.Calls.{in_shape, started, to_post, posted, after_post};
+ghost use Rattle.layout.specs.Network.{network};
+ghost use Rattle.reduction.specs.Effects.{started};
+ghost use Rattle.machine.specs.Calls.{to_post};
+ghost use Rattle.machine.specs.Hosting.{PostAnswers, PostLeaves};
 
 use super::denial::{Denial, Missing};
 use layout::{RunningRow, Slot, Tables};
@@ -60,8 +60,8 @@ pub fn post<O: Order>(
     location: u32,
     job: u32,
 ) -> Result<usize, Denial>
-    ensures answer { result ≡ in_shape (first_place O.COUNT O.TOP tables.old stage.Live) (posted (network tables.old) location job) }
-    ensures after { MatchResult result (λ _. Holds tables.new (after_post (network tables.old) location job)) (λ _. tables.new ≡ tables.old) }
+    ensures answer { PostAnswers O.COUNT O.TOP (O.below _order.now) tables.old location job result }
+    ensures after { PostLeaves O.COUNT O.TOP (O.below _order.now) tables.old location job result tables.new }
 {
     if let Some(place) = shape::<O>(tables, Stage::Live) {
         return Err(Denial::Shape(place));

@@ -1,9 +1,5 @@
 // A running job is taken out.
-ghost use Rattle.std.specs.Prelude.{◌≡◌, MatchResult};
-ghost use Rattle.layout.specs.Network.{network, Holds};
-ghost use Rattle.shape.specs.declared.place.Stage.TheVariants as stage;
-ghost use Rattle.shape.specs.Place.{first_place};
-ghost use Rattle.machine.specs.Calls.{in_shape, recalled, after_recall};
+ghost use Rattle.machine.specs.Hosting.{RecallAnswers, RecallLeaves};
 
 use super::denial::{Denial, Missing};
 use layout::Tables;
@@ -19,8 +15,8 @@ pub fn recall<O: Order>(
     _order: &O,
     position: usize,
 ) -> Result<(), Denial>
-    ensures answer { result ≡ in_shape (first_place O.COUNT O.TOP tables.old stage.Live) (recalled (network tables.old) position) }
-    ensures after { MatchResult result (λ _. Holds tables.new (after_recall (network tables.old) position)) (λ _. tables.new ≡ tables.old) }
+    ensures answer { RecallAnswers O.COUNT O.TOP (O.below _order.now) tables.old position result }
+    ensures after { RecallLeaves O.COUNT O.TOP (O.below _order.now) tables.old position result tables.new }
 {
     if let Some(place) = shape::<O>(tables, Stage::Live) {
         return Err(Denial::Shape(place));

@@ -1,9 +1,5 @@
 // One edge of a live network, to those to whom it is open.
-ghost use Rattle.std.specs.Prelude.{◌≡◌};
-ghost use Rattle.layout.specs.Network.{network};
-ghost use Rattle.shape.specs.declared.place.Stage.TheVariants as stage;
-ghost use Rattle.shape.specs.Place.{first_place};
-ghost use Rattle.machine.specs.Calls.{shown, shown_in};
+ghost use Rattle.machine.specs.Hosting.{Shown};
 
 use layout::Tables;
 use order::{Order, RoleSet, opens};
@@ -21,7 +17,7 @@ pub fn show<O: Order>(
     row: usize,
     roles: RoleSet,
 ) -> Option<TreeLine>
-    ensures answer { result ≡ shown_in (first_place O.COUNT O.TOP tables.now stage.Live) (shown (O.below order.now) (network tables.now) location row roles) }
+    ensures answer { Shown O.COUNT O.TOP (O.below order.now) tables.now location row roles result }
 {
     if shape::<O>(tables, Stage::Live).is_some() {
         return None;
