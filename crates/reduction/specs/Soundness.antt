@@ -1,5 +1,5 @@
 -- Networks that are sound: every row stands, and every typing rule is kept; and what a step has to bring about so that they stay so.
-use Rattle.std.specs.Prelude.{◌≡◌, ℕ, ◌<◌, Bool, List, [], ◌++◌, length, slice_index_or}
+use Rattle.std.specs.Prelude.{◌≡◌, ℕ, ◌<◌, ◌≤◌, Bool, List, [], ◌++◌, length, slice_index_or}
 use Rattle.order.specs.Laws.{Lawful}
 use Rattle.order.specs.RoleSets.{InUse}
 use Rattle.layout.specs.declared.memory.RunningRow.{RunningRow}
@@ -48,7 +48,10 @@ pub record NetworkSound (below : ℕ → ℕ → Bool) (s : Sizes) (n : Network)
   pub trees : (l : ℕ) → l < length n.trees → TreeStands s (slice_index_or n.trees l [])
   pub every_location : length n.trees ≡ 16
   pub nowhere : (l : ℕ) → l < length n.trees → (l < s.locations → ⊥) → slice_index_or n.trees l [] ≡ []
+  -- trees have at most 128 lines, those on the shelf too
+  pub short : (l : ℕ) → length (slice_index_or n.trees l []) ≤ 128
   pub shelf : (k : ℕ) → k < length n.shelf → TreeStands s (slice_index_or n.shelf k [])
+  pub shelved : (k : ℕ) → length (slice_index_or n.shelf k []) ≤ 128
   pub obeys : Obeys below s.top n
   pub running : Each (JobSound below s n.plan n.shelf) no_running n.running
 
@@ -71,4 +74,6 @@ with_shelf s trees = record {
 pub record EffectSound (below : ℕ → ℕ → Bool) (s : Sizes) (p : Plan) (policy : ℕ) (shelf : List TreeLines) (e : Effect) : Type 0 where
   pub jobs : Each (JobSound below (with_shelf s (length (shelf ++ e.copies))) p (shelf ++ e.copies)) no_running e.jobs
   pub copies : (k : ℕ) → k < length e.copies → TreeStands s (slice_index_or e.copies k [])
+  -- a copy is of at most 128 lines: it lies in a tree of the network
+  pub short : (k : ℕ) → length (slice_index_or e.copies k []) ≤ 128
   pub tree : trees.Sound below s (least_of p policy) p.jobs policy e.tree

@@ -1,0 +1,6 @@
+// The guarantee: what holds of an admitted network after any list of calls.
+#![tactic(auto)]
+
+mod admission;
+
+pub use admission::admit;
