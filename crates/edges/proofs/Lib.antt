@@ -3,6 +3,7 @@ pub mod CopiedLines
 pub mod Disabling
 pub mod EnabledLines
 pub mod Enabling
+pub mod FlaggedRows
 pub mod FoundLines
 pub mod KeptRoles
 pub mod Matched

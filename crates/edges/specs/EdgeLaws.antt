@@ -1,5 +1,5 @@
 -- What the layers above may use of paths, enabling and disabling, for every lawful order of roles.
-use Rattle.std.specs.Prelude.{◌≡◌, ℕ, ◌+◌, ◌-◌, ◌^◌, ◌<◌, Bool, true, ◌⊎◌, List, length, ◌≢◌}
+use Rattle.std.specs.Prelude.{◌≡◌, ℕ, ◌+◌, ◌-◌, ◌^◌, ◌<◌, Bool, true, false, ◌⊎◌, List, length, ◌≢◌, slice_index_or}
 use Rattle.order.specs.Laws.{Lawful}
 use Rattle.order.specs.RoleSets.{In, SetBelow, Opens}
 use Rattle.rows.specs.declared.row.PathStepRow.{PathStepRow}
@@ -15,6 +15,7 @@ use Rattle.edges.specs.Matching.{EdgeMatches}
 use Rattle.edges.specs.Paths.{last_set, Found}
 use Rattle.edges.specs.Enabling.{Enabled}
 use Rattle.edges.specs.Disabling.{Disabled}
+use Rattle.edges.specs.Rows.{flagged_rows, flagged_count}
 
 -- edges over edges
 pub record OverLaws : Type 0 where
@@ -76,3 +77,15 @@ pub record MatchingLaws : Type 0 where
   -- what lies under an edge is what that edge is over
   pub lies : (tree : TreeLines) (i k : ℕ) → k < length tree → Over tree i k
       → (k - (i + 1) < length (under tree i)) × (line (under tree i) (k - (i + 1)) ≡ at_depth (line tree k) ((line tree k).depth - (line tree i).depth))
+
+-- the rows that flags name
+pub record RowLaws : Type 0 where
+  -- they ascend
+  pub ascend : (flags : List Bool) (j k : ℕ) → j < k → k < flagged_count flags → slice_index_or (flagged_rows flags) j 0 < slice_index_or (flagged_rows flags) k 0
+  -- each is flagged
+  pub flagged : (flags : List Bool) (k : ℕ) → k < flagged_count flags → slice_index_or flags (slice_index_or (flagged_rows flags) k 0) false ≡ true
+  -- and each flagged row is among them
+  pub among : (flags : List Bool) (row : ℕ) → slice_index_or flags row false ≡ true
+      → (k : ℕ) × (k < flagged_count flags) × (slice_index_or (flagged_rows flags) k 0 ≡ row)
+  -- flags that agree at every row name the same rows, however many flags they are
+  pub agree : (a b : List Bool) → ((row : ℕ) → slice_index_or a row false ≡ slice_index_or b row false) → flagged_rows a ≡ flagged_rows b

@@ -1,5 +1,5 @@
 // The laws of edges, paths, enabling and disabling, for the layers above.
-ghost use Rattle.edges.specs.EdgeLaws.{OverLaws, Access, EnablingLaws, DisablingLaws, MatchingLaws};
+ghost use Rattle.edges.specs.EdgeLaws.{OverLaws, Access, EnablingLaws, DisablingLaws, MatchingLaws, RowLaws};
 
 // The edges over an edge are the one above it and those over that.
 pub fn edges_keep_their_laws()
@@ -24,4 +24,9 @@ pub fn disabling_keeps_its_laws()
 // What a tree pattern matches is open to the roles that its second set is ≤ to.
 pub fn patterns_open()
     ensures laws { MatchingLaws }
+{}
+
+// The rows that flags name are those whose flags are set, in tree order.
+pub fn flags_name_rows()
+    ensures laws { RowLaws }
 {}

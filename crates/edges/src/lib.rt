@@ -5,6 +5,6 @@
 mod laws;
 
 pub use laws::{
-    disabling_keeps_its_laws, edges_keep_their_laws, enabling_keeps_its_laws, paths_open,
-    patterns_open,
+    disabling_keeps_its_laws, edges_keep_their_laws, enabling_keeps_its_laws, flags_name_rows,
+    paths_open, patterns_open,
 };

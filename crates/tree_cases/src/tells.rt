@@ -3,7 +3,7 @@ use super::standing_lines::stands;
 use drawn::Drawn;
 use rows::{PathStepRow, TreeLine};
 use std::io;
-use trees::Path;
+use trees::{Path, count_found};
 
 // A tree, each line by its depth, label, set and content.
 pub(crate) fn show(rt: &HostRuntime, tree: &[TreeLine]) -> io::Result<()> {
@@ -21,7 +21,7 @@ pub(crate) fn show(rt: &HostRuntime, tree: &[TreeLine]) -> io::Result<()> {
     Ok(())
 }
 
-// The rows that the path finds.
+// The rows that the path finds, and how many they are.
 pub(crate) fn tell_found(
     rt: &HostRuntime,
     question: &str,
@@ -39,5 +39,6 @@ pub(crate) fn tell_found(
             print!(rt; " {row}")?;
         }
     }
-    println!(rt; "")
+    let count = count_found(&found);
+    println!(rt; ", {count} found")
 }

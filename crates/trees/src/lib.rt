@@ -3,10 +3,12 @@
 #![tactic(auto)]
 
 mod copies;
+mod counting;
 mod enabling;
 mod matching;
 mod paths;
 
 pub use copies::copy_under;
+pub use counting::count_found;
 pub use matching::edge_matches;
 pub use paths::Path;
