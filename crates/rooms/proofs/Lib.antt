@@ -1,5 +1,6 @@
 pub mod Adding
 pub mod Closing
 pub mod Committing
+pub mod Joined
 pub mod Starting
 pub mod Trying

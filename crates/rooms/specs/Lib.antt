@@ -1,3 +1,4 @@
 pub mod Filled
+pub mod Joining
 pub mod Leaving
 pub mod Rooms

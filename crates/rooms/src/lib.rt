@@ -3,6 +3,7 @@
 
 mod beginning;
 mod filled;
+mod growing;
 mod leaving;
 mod room;
 mod scratch;
