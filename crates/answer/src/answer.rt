@@ -1,7 +1,9 @@
 // How an answer is written: one line, without its end.
 ghost use Rattle.std.specs.Prelude.{◌≡◌, Some};
-ghost use Rattle.answer.specs.Showing.{state_text, answer_text};
+ghost use Rattle.answer.specs.Showing.{state_text, edge_text, answer_text};
 
+use dump::Field;
+use rows::TreeLine;
 use std::fmt;
 use words::Unclear;
 
@@ -22,6 +24,27 @@ impl fmt::Display for State {
             State::Draft => "draft",
             State::Live => "live",
         })
+    }
+}
+
+// An edge, as it is shown.
+#[derive(Clone, Copy, Debug)]
+struct EdgeText(TreeLine);
+
+impl fmt::Display for EdgeText {
+    ghost output = { λ edge. Some (edge_text edge.0) };
+
+    fn fmt<W: fmt::Write>(&self, f: &mut fmt::Formatter<W>) -> fmt::Result {
+        let TreeLine {
+            depth,
+            label,
+            set,
+            content,
+            first,
+            second,
+        } = self.0;
+        let set = Field::Set(set);
+        write!(f, "edge {depth} {label} {set} {content} {first} {second}")
     }
 }
 
@@ -62,6 +85,33 @@ pub enum Answer {
         row: usize,
         rule: u32,
     },
+    // What the call names is not there.
+    NoPosition {
+        number: u32,
+    },
+    NoLocation {
+        number: u32,
+    },
+    NoJob {
+        number: u32,
+    },
+    // The job is of another policy than the location.
+    OtherPolicy {
+        number: u32,
+    },
+    NoRoom {
+        number: u32,
+        room: u32,
+    },
+    // An edge that was asked for, and that nothing is shown or found.
+    Edge(TreeLine),
+    Nothing,
+    // A row of a table has no shape, or breaks this rule: what an audit finds.
+    Fault {
+        table: u32,
+        row: usize,
+        rule: u32,
+    },
     // The command does not fit what the session has.
     NotNow(State),
     Unclear(Unclear),
@@ -88,6 +138,16 @@ impl fmt::Display for Answer {
                 row,
                 rule,
             } => write!(f, "refused {number} table {table} row {row} rule {rule}"),
+            Answer::NoPosition { number } => write!(f, "refused {number} position"),
+            Answer::NoLocation { number } => write!(f, "refused {number} location"),
+            Answer::NoJob { number } => write!(f, "refused {number} job"),
+            Answer::OtherPolicy { number } => write!(f, "refused {number}"),
+            Answer::NoRoom { number, room } => write!(f, "refused {number} room {room}"),
+            Answer::Edge(line) => write!(f, "{}", EdgeText(*line)),
+            Answer::Nothing => f.write_str("nothing"),
+            Answer::Fault { table, row, rule } => {
+                write!(f, "fault table {table} row {row} rule {rule}")
+            }
             Answer::NotNow(state) => write!(f, "? not now: {state}"),
             Answer::Unclear(unclear) => write!(f, "? {unclear}"),
         }

@@ -7,6 +7,7 @@ mod lines;
 mod listed;
 
 pub use dumping::dump;
+pub use field::Field;
 
 #[cfg(test)]
 mod tests;

@@ -52,4 +52,4 @@ module _ (count top : ℕ) (below : ℕ → ℕ → Bool) where
 
   -- of the tables as they are, and of those after any list of calls
   abbrev pub Guarantee : Tables → Type 0
-  Guarantee t = (calls : List Call) (after : Tables) → History t calls after → Kept after
+  Guarantee t = (calls : List Call) (after : Tables) → History count top below t calls after → Kept after

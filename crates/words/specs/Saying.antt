@@ -41,6 +41,11 @@ pub data Asked : Type 0 where
   close : Asked
   dump : Asked
   poke : ℕ → ℕ → ℕ → ℕ → Asked
+  post : (location job : ℕ) → Asked
+  step : (position : ℕ) → Asked
+  recall : (position : ℕ) → Asked
+  show : (location row roles : ℕ) → Asked
+  audit : Asked
 
 -- What a line says.
 pub data Said : Type 0 where
@@ -67,9 +72,23 @@ abbrev pub Wanted : {A : Type 0} → (List ℕ → Option A → Type 0) → Why 
 Wanted {A} P w place None r = r ≡ Err (fault place Missing)
 Wanted {A} P w place (Some word) r = (o : Option A) × P word o × (r ≡ ok_or o (fault place w))
 
--- The names of the commands.
-abbrev pub name_of : List ℕ → Option Name
-name_of word =
+-- The first, if it is a name, else the second.
+abbrev pub first_name : Option Name → Option Name → Option Name
+first_name (Some n) other = Some n
+first_name None other = other
+
+-- The names of the calls on a live network.
+abbrev pub call_of : List ℕ → Option Name
+call_of word =
+    cond (bytes_eq word (codes "recall")) (Some name.Recall)
+    (cond (bytes_eq word (codes "post")) (Some name.Post)
+    (cond (bytes_eq word (codes "step")) (Some name.Step)
+    (cond (bytes_eq word (codes "show")) (Some name.Show)
+    (cond (bytes_eq word (codes "audit")) (Some name.Audit) None))))
+
+-- The names of the other commands.
+abbrev pub other_of : List ℕ → Option Name
+other_of word =
     cond (bytes_eq word (codes "order")) (Some name.Order)
     (cond (bytes_eq word (codes "draw")) (Some name.Draw)
     (cond (bytes_eq word (codes "below")) (Some name.Below)
@@ -81,6 +100,9 @@ name_of word =
     (cond (bytes_eq word (codes "close")) (Some name.Close)
     (cond (bytes_eq word (codes "dump")) (Some name.Dump)
     (cond (bytes_eq word (codes "poke")) (Some name.Poke) None))))))))))
+
+abbrev pub name_of : List ℕ → Option Name
+name_of word = first_name (call_of word) (other_of word)
 
 -- The names of the orders.
 abbrev pub order_of : List ℕ → Option OrderKind
@@ -172,7 +194,7 @@ list_asked words = then_ok (sheet_asked words) (λ given. Ok (list given))
 abbrev pub load_asked : List (List ℕ) → Result Asked Unclear
 load_asked words = then_ok (sheet_asked words) (λ given. Ok (load given))
 
--- `admit`, `close` or `dump`: a command that is its name alone.
+-- `admit`, `close`, `dump` or `audit`: a command that is its name alone.
 abbrev pub alone : List (List ℕ) → Asked → Result Asked Unclear
 alone words a = then_ok (end_at words 1) (λ _. Ok a)
 
@@ -181,6 +203,26 @@ abbrev pub poke_asked : List (List ℕ) → Result Asked Unclear
 poke_asked words =
     then_ok (narrow_at words 1) (λ table. then_ok (narrow_at words 2) (λ row. then_ok (narrow_at words 3) (λ field.
     then_ok (wide_at words 4) (λ value. then_ok (end_at words 5) (λ _. Ok (poke table row field value))))))
+
+-- `post LOCATION JOB`
+abbrev pub post_asked : List (List ℕ) → Result Asked Unclear
+post_asked words = then_ok (narrow_at words 1) (λ location. then_ok (narrow_at words 2) (λ job. then_ok (end_at words 3) (λ _. Ok (post location job))))
+
+-- `step POSITION` and `recall POSITION`
+abbrev pub position_asked : List (List ℕ) → Result ℕ Unclear
+position_asked words = then_ok (narrow_at words 1) (λ position. then_ok (end_at words 2) (λ _. Ok position))
+
+abbrev pub step_asked : List (List ℕ) → Result Asked Unclear
+step_asked words = then_ok (position_asked words) (λ position. Ok (step position))
+
+abbrev pub recall_asked : List (List ℕ) → Result Asked Unclear
+recall_asked words = then_ok (position_asked words) (λ position. Ok (recall position))
+
+-- `show LOCATION ROW SET`
+abbrev pub show_asked : List (List ℕ) → Result Asked Unclear
+show_asked words =
+    then_ok (narrow_at words 1) (λ location. then_ok (narrow_at words 2) (λ row. then_ok (set_at words 3) (λ roles.
+    then_ok (end_at words 4) (λ _. Ok (show location row roles)))))
 
 -- What the command of this name asks.
 abbrev pub asked_by : Option Name → List (List ℕ) → Result Asked Unclear
@@ -196,6 +238,11 @@ asked_by (Some name.Admit) words = alone words admit
 asked_by (Some name.Close) words = alone words close
 asked_by (Some name.Dump) words = alone words dump
 asked_by (Some name.Poke) words = poke_asked words
+asked_by (Some name.Post) words = post_asked words
+asked_by (Some name.Step) words = step_asked words
+asked_by (Some name.Recall) words = recall_asked words
+asked_by (Some name.Show) words = show_asked words
+asked_by (Some name.Audit) words = alone words audit
 
 -- What a line says that is no note.
 abbrev pub said_is : Result Asked Unclear → Said
@@ -233,6 +280,11 @@ asked_of command.Admit = admit
 asked_of command.Close = close
 asked_of command.Dump = dump
 asked_of (command.Poke table row field value) = poke table row field value
+asked_of (command.Post location job) = post location job
+asked_of (command.Step position) = step position
+asked_of (command.Recall position) = recall position
+asked_of (command.Show location row roles) = show location row roles
+asked_of command.Audit = audit
 
 -- The same where a fault may stand in its place.
 abbrev pub asked : Result Command Unclear → Result Asked Unclear

@@ -44,4 +44,23 @@ pub enum Command {
         field: u32,
         value: u64,
     },
+    // The job of this row is to start at the location.
+    Post {
+        location: u32,
+        job: u32,
+    },
+    // The running job at this position is to make its next step, or to be taken out.
+    Step {
+        position: u32,
+    },
+    Recall {
+        position: u32,
+    },
+    // This edge of the location is to be shown, if the roles open it.
+    Show {
+        location: u32,
+        row: u32,
+        roles: u64,
+    },
+    Audit,
 }

@@ -1,6 +1,6 @@
 // The names of the commands, of the orders, and of the ways in which a sheet is given.
 ghost use Rattle.std.specs.Prelude.{◌≡◌};
-ghost use Rattle.words.specs.Saying.{name_of, order_of, source_of};
+ghost use Rattle.words.specs.Saying.{call_of, other_of, name_of, order_of, source_of};
 
 use super::line::OrderKind;
 
@@ -17,6 +17,11 @@ pub enum Name {
     Close,
     Dump,
     Poke,
+    Post,
+    Step,
+    Recall,
+    Show,
+    Audit,
 }
 
 // The ways in which a sheet is given.
@@ -26,8 +31,25 @@ pub enum Source {
     File,
 }
 
-pub(crate) fn name_of(word: &[u8]) -> Option<Name>
-    ensures answer { result ≡ name_of word.now }
+// The calls on a live network.
+fn call_of(word: &[u8]) -> Option<Name>
+    ensures answer { result ≡ call_of word.now }
+{
+    if word == b"recall".as_slice() {
+        return Some(Name::Recall);
+    }
+    match word {
+        b"post" => Some(Name::Post),
+        b"step" => Some(Name::Step),
+        b"show" => Some(Name::Show),
+        b"audit" => Some(Name::Audit),
+        _ => None,
+    }
+}
+
+// The commands that are no such call.
+fn other_of(word: &[u8]) -> Option<Name>
+    ensures answer { result ≡ other_of word.now }
 {
     match word {
         b"order" => Some(Name::Order),
@@ -42,6 +64,15 @@ pub(crate) fn name_of(word: &[u8]) -> Option<Name>
         b"dump" => Some(Name::Dump),
         b"poke" => Some(Name::Poke),
         _ => None,
+    }
+}
+
+pub(crate) fn name_of(word: &[u8]) -> Option<Name>
+    ensures answer { result ≡ name_of word.now }
+{
+    match call_of(word) {
+        Some(name) => Some(name),
+        None => other_of(word),
     }
 }
 

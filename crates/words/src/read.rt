@@ -1,7 +1,7 @@
 // Reads what a line says, word by word from the left.
 ghost use Rattle.std.specs.Prelude.{◌≡◌, Some, IfSome};
 ghost use Rattle.words.specs.Cutting.{texts};
-ghost use Rattle.words.specs.Saying.{Reads, order_asked, below_asked, under_asked, opens_asked, draw_asked, given, sheet_from, sheet_asked, alone, poke_asked, asked, asked_of, asked_by, is_note, said_by, said, said_of};
+ghost use Rattle.words.specs.Saying.{Reads, order_asked, below_asked, under_asked, opens_asked, draw_asked, given, sheet_from, sheet_asked, alone, poke_asked, post_asked, position_asked, step_asked, recall_asked, show_asked, asked, asked_of, asked_by, is_note, said_by, said, said_of};
 
 use super::argument::Arguments;
 use super::cut::cut;
@@ -95,6 +95,55 @@ fn poke(words: &[&[u8]]) -> Result<Command, Unclear>
     })
 }
 
+fn post(words: &[&[u8]]) -> Result<Command, Unclear>
+    ensures answer { asked result ≡ post_asked (texts words.now) }
+{
+    let mut arguments = Arguments::of(words);
+    let location = arguments.narrow()?;
+    let job = arguments.narrow()?;
+    arguments.end()?;
+    Ok(Command::Post { location, job })
+}
+
+// A position of the running list, and no more.
+fn position(words: &[&[u8]]) -> Result<u32, Unclear>
+    ensures answer { result ≡ position_asked (texts words.now) }
+{
+    let mut arguments = Arguments::of(words);
+    let position = arguments.narrow()?;
+    arguments.end()?;
+    Ok(position)
+}
+
+fn show(words: &[&[u8]]) -> Result<Command, Unclear>
+    ensures answer { asked result ≡ show_asked (texts words.now) }
+{
+    let mut arguments = Arguments::of(words);
+    let location = arguments.narrow()?;
+    let row = arguments.narrow()?;
+    let roles = arguments.role_set()?;
+    arguments.end()?;
+    Ok(Command::Show {
+        location,
+        row,
+        roles,
+    })
+}
+
+fn step(words: &[&[u8]]) -> Result<Command, Unclear>
+    ensures answer { asked result ≡ step_asked (texts words.now) }
+{
+    let position = position(words)?;
+    Ok(Command::Step { position })
+}
+
+fn recall(words: &[&[u8]]) -> Result<Command, Unclear>
+    ensures answer { asked result ≡ recall_asked (texts words.now) }
+{
+    let position = position(words)?;
+    Ok(Command::Recall { position })
+}
+
 // The words are those of the command, its name among them.
 fn asked_by(heap: Global, name: Option<Name>, words: &[&[u8]]) -> Result<Command, LineError>
     ensures answer { Reads asked_of result (asked_by name (texts words.now)) }
@@ -111,6 +160,11 @@ fn asked_by(heap: Global, name: Option<Name>, words: &[&[u8]]) -> Result<Command
         Some(Name::Close) => Ok(alone(words, Command::Close)?),
         Some(Name::Dump) => Ok(alone(words, Command::Dump)?),
         Some(Name::Poke) => Ok(poke(words)?),
+        Some(Name::Post) => Ok(post(words)?),
+        Some(Name::Step) => Ok(step(words)?),
+        Some(Name::Recall) => Ok(recall(words)?),
+        Some(Name::Show) => Ok(show(words)?),
+        Some(Name::Audit) => Ok(alone(words, Command::Audit)?),
         None => Err(LineError::Unclear(Unclear {
             word: 0,
             why: Why::NotACommand,
