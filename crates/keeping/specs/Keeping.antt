@@ -21,14 +21,14 @@ pub record HoldsSound (count top : ℕ) (below : ℕ → ℕ → Bool) (t : Tabl
   pub sound : NetworkSound below (sizes_of count top t) n
 
 -- the running job at a place
-abbrev pub job_at : Network → ℕ → RunningRow
-job_at n place = slice_index_or n.running place no_running
+abbrev pub running_at : Network → ℕ → RunningRow
+running_at n place = slice_index_or n.running place no_running
 
 -- the network after a step of the job at this place
 abbrev pub after_step : Network → ℕ → Effect → Network
-after_step n place e = left_in n (job_at n place).location (aftermath n place e)
+after_step n place e = left_in n (running_at n place).location (aftermath n place e)
 
-pub record Keeping : Type 0 where
+pub record KeepingLaws : Type 0 where
   -- sound tables, whose arrays are as long as their types say, hold a sound network
   pub held : (count top : ℕ) (below : ℕ → ℕ → Bool) → Lawful count top below → (t : Tables) → Sized t → Sound count top below t
       → HoldsSound count top below t (network t)
@@ -50,5 +50,5 @@ pub record Keeping : Type 0 where
       → (position : ℕ) → Holds u (after_recall n position) → HoldsSound count top below u (after_recall n position)
   pub step : (count top : ℕ) (below : ℕ → ℕ → Bool) (t u : Tables) (n : Network) → HoldsSound count top below t n
       → (place : ℕ) → place < length n.running → (e : Effect)
-      → EffectSound below (sizes_of count top t) n.plan (policy_at n.plan (job_at n place).location) n.shelf e
+      → EffectSound below (sizes_of count top t) n.plan (policy_at n.plan (running_at n place).location) n.shelf e
       → lacking (aftermath n place e) ≡ None → Holds u (after_step n place e) → HoldsSound count top below u (after_step n place e)
