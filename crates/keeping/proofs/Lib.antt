@@ -1,0 +1,5 @@
+pub mod Calling
+pub mod Growing
+pub mod Listed
+pub mod Reading
+pub mod Stored
