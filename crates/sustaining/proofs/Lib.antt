@@ -1,5 +1,11 @@
 pub mod AllLaws
+pub mod Continuing
+pub mod Growing
+pub mod Lists
+pub mod Moves
 pub mod Networks
 pub mod Openness
 pub mod Operands
 pub mod Readiness
+pub mod Recolourings
+pub mod Successors
