@@ -8,4 +8,6 @@ pub mod Openness
 pub mod Operands
 pub mod Readiness
 pub mod Recolourings
+pub mod Rows
+pub mod Scripts
 pub mod Successors
