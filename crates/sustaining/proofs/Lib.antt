@@ -1,12 +1,16 @@
 pub mod AllLaws
 pub mod Continuing
+pub mod Copies
+pub mod Filling
 pub mod Growing
 pub mod Lists
 pub mod Moves
 pub mod Networks
 pub mod Openness
 pub mod Operands
+pub mod Patterns
 pub mod Readiness
+pub mod Reading
 pub mod Recolourings
 pub mod Rows
 pub mod Scripts
