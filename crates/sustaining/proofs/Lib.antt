@@ -1,8 +1,10 @@
 pub mod AllLaws
+pub mod Changing
 pub mod Continuing
 pub mod Copies
 pub mod Filling
 pub mod Growing
+pub mod HeldSlots
 pub mod Lists
 pub mod Moves
 pub mod Networks
@@ -14,4 +16,5 @@ pub mod Reading
 pub mod Recolourings
 pub mod Rows
 pub mod Scripts
+pub mod Steps
 pub mod Successors
