@@ -1,5 +1,5 @@
 -- Trees that are copied to the shelf.
-use Rattle.std.proofs.Common.{◌≡◌, ℕ, ◌+◌, ◌<◌, ◌≤◌, Bool, List, [], ◌++◌, map, length, get_or, drop, sym, subst, arith, ◌∙◌}
+use Rattle.std.proofs.Common.{◌≡◌, ℕ, zero, suc, ◌+◌, ◌<◌, ◌≤◌, Bool, List, [], ◌∷◌, ◌++◌, map, length, get_or, drop, sym, refl, subst, arith, ◌∙◌}
 use Rattle.std.proofs.lemmas.List.{get_or-drop, get_or-map, get_or-append-add, length-append, length-drop, length-map}
 use Rattle.rows.specs.declared.row.TreeLine.{TreeLine}
 use Rattle.layout.specs.declared.memory.RunningRow.{RunningRow}
@@ -30,6 +30,14 @@ under_low s tree w i k h =
     let same : (line (drop (i + 1) tree) k).depth ≤ 12 = subst (λ (x : TreeLine). x.depth ≤ 12) (sym there) high in
     subst (λ (x : TreeLine). x.depth ≤ 12) (sym d.2) (omega arith)
 
+-- nor longer
+under_no_longer : (tree : TreeLines) (i : ℕ) → length (under tree i) ≤ length tree
+under_no_longer tree i = go (length (under tree i)) refl
+  where
+    go : (m : ℕ) → length (under tree i) ≡ m → m ≤ length tree
+    go zero e = omega arith
+    go (suc m) e = omega (arith, (deep_line (line tree i).depth (drop (i + 1) tree) m (omega (arith, e))).0, length-drop (i + 1) tree)
+
 -- the k-th copy is shelved behind the others
 pub copy_shelved : (m : Pattern) (shelf : List TreeLines) (tree : TreeLines) (rows : List ℕ) (k : ℕ) → k < length rows
     → Shelved m (shelf ++ copies m tree rows) tree (get_or rows k 0) (length shelf + k)
@@ -54,3 +62,17 @@ module _ (below : ℕ → ℕ → Bool) (s : Sizes) (n : Network) (w : NetworkSo
   copies_stand (pattern.Pointer slot policy last) rows k h = absurd (omega arith)
   copies_stand (pattern.Tree slot policy top all) rows k h =
       subst (TreeStands s) (sym (get_or-map (under (tree_of n r)) rows k 0 [] (omega (arith, length-map rows (under (tree_of n r)))))) (under_stands (get_or rows k 0))
+
+  under_short : (i : ℕ) → length (under (tree_of n r) i) ≤ 128
+  under_short i = omega (arith, under_no_longer (tree_of n r) i, w.short r.location)
+
+  short_map : (rows : List ℕ) (k : ℕ) → length (get_or (map (under (tree_of n r)) rows) k []) ≤ 128
+  short_map [] k = omega arith
+  short_map (row ∷ rows) zero = under_short row
+  short_map (row ∷ rows) (suc k) = short_map rows k
+
+  pub copies_short : (m : Pattern) (rows : List ℕ) (k : ℕ) → length (get_or (copies m (tree_of n r) rows) k []) ≤ 128
+  copies_short (pattern.Number slot) rows k = omega arith
+  copies_short (pattern.Script slot policy) rows k = omega arith
+  copies_short (pattern.Pointer slot policy last) rows k = omega arith
+  copies_short (pattern.Tree slot policy top all) rows k = short_map rows k

@@ -26,7 +26,7 @@ use Rattle.reduction.specs.Filling.{filled_slots}
 use Rattle.reduction.specs.Soundness.{JobSound, NetworkSound, EffectSound, with_shelf}
 use Rattle.reduction.specs.Steps.{next_of, Reads}
 use Rattle.reduction.specs.Values.{tree_of, path_of}
-use Rattle.sustaining.proofs.Copies.{copy_shelved, copies_stand}
+use Rattle.sustaining.proofs.Copies.{copy_shelved, copies_stand, copies_short}
 use Rattle.sustaining.proofs.Filling.{EachSlot, SlotSound, Shelved, filled_sound, filled_long, marks_filled, path_inside}
 use Rattle.sustaining.proofs.Growing.{slot_grows}
 use Rattle.sustaining.proofs.Lists.{each_none, each_more}
@@ -116,7 +116,12 @@ module _ (below : ℕ → ℕ → Bool) (s : Sizes) (n : Network) (w : NetworkSo
     })
     outcome true z =
         none_shelved below s n.plan (policy_at n.plan r.location) n.shelf (flagged_count q.flags) [] (tree_of n r) (each_none (Successor below s n.plan n.shelf []) no_running) (tree_sound below s n w r)
-    outcome false z = record { jobs = copied z; copies = copies_stand below s n w r q.pattern rows; tree = tree_sound below s n w r }
+    outcome false z = record {
+      jobs = copied z;
+      copies = copies_stand below s n w r q.pattern rows;
+      short = copies_short below s n w r q.pattern rows;
+      tree = tree_sound below s n w r;
+    }
 
     pub read_sound : EffectSound below s n.plan (policy_at n.plan r.location) n.shelf e
     read_sound = subst (EffectSound below s n.plan (policy_at n.plan r.location) n.shelf) (sym q.effect) (outcome (eqb next 0) refl)

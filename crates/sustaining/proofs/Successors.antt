@@ -52,4 +52,4 @@ module _ (below : ℕ → ℕ → Bool) (s : Sizes) (p : Plan) (shelf more : Lis
 pub none_shelved : (below : ℕ → ℕ → Bool) (s : Sizes) (p : Plan) (policy : ℕ) (shelf : List TreeLines) (found : ℕ) (jobs : List RunningRow) (tree : TreeLines)
     → Each (Successor below s p shelf []) no_running jobs → Sound below s (least_of p policy) p.jobs policy tree
     → EffectSound below s p policy shelf (record { found = found; jobs = jobs; copies = []; tree = tree })
-none_shelved below s p policy shelf found jobs tree js w = record { jobs = js; copies = λ k h. absurd (omega arith); tree = w }
+none_shelved below s p policy shelf found jobs tree js w = record { jobs = js; copies = λ k h. absurd (omega arith); short = λ k. omega arith; tree = w }
