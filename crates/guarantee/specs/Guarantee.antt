@@ -1,17 +1,17 @@
 -- What holds at the start, and after every history of calls, of a network that was admitted.
-use Rattle.std.specs.Prelude.{◌≡◌, ℕ, ◌<◌, ◌⊎◌, Bool, List, length, None, Some, Ok, Err, Option, Result}
+use Rattle.std.specs.Prelude.{◌≡◌, ℕ, ◌<◌, ◌⊎◌, Bool, List, length, None, Some, Err, Result}
 use Rattle.layout.specs.declared.memory.Tables.{Tables}
 use Rattle.layout.specs.Network.{network}
 use Rattle.rules.specs.Admission.{Sound, live_fault}
 use Rattle.rooms.specs.declared.room.Room.{Room}
 use Rattle.rooms.specs.Rooms.{lacking}
-use Rattle.reduction.specs.Values.{tree_of}
+use Rattle.reduction.specs.Values.{job_at, tree_of}
 use Rattle.reduction.specs.Effects.{Effect, aftermath}
 use Rattle.reduction.specs.Access.{Touches, OpenTo}
 use Rattle.machine.specs.declared.denial.Missing.TheVariants.{Position}
 use Rattle.machine.specs.declared.denial.Denial.{Denial}
 use Rattle.machine.specs.declared.denial.Denial.TheVariants as denial
-use Rattle.machine.specs.Stepping.{job_at, Outcome}
+use Rattle.machine.specs.Stepping.{Outcome}
 use Rattle.machine.specs.Hosting.{StepGranted, Stepped}
 use Rattle.guarantee.specs.Histories.{Call, History}
 

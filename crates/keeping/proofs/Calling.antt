@@ -27,10 +27,11 @@ use Rattle.rooms.specs.Rooms.{lacking}
 use Rattle.rooms.specs.Leaving.{without}
 use Rattle.rooms.proofs.Committing.{roomy}
 use Rattle.machine.specs.declared.denial.Denial.{Denial}
-use Rattle.machine.specs.Calls.{with_running, started, to_post, position_of, posted, after_post, after_recall}
-use Rattle.reduction.specs.Effects.{Effect, aftermath}
+use Rattle.machine.specs.Calls.{with_running, to_post, position_of, posted, after_post, after_recall}
+use Rattle.reduction.specs.Effects.{Effect, aftermath, started}
+use Rattle.reduction.specs.Values.{job_at}
 use Rattle.reduction.specs.Soundness.{JobSound, NetworkSound, EffectSound, with_shelf}
-use Rattle.keeping.specs.Keeping.{HoldsSound, running_at, after_step}
+use Rattle.keeping.specs.Keeping.{HoldsSound, after_step}
 use Rattle.keeping.proofs.Growing.{tree_on, plan_on, job_sound_on, sizes_then}
 use Rattle.keeping.proofs.Listed.{each_like, each_append, each_without, put_at, short_append}
 
@@ -141,7 +142,7 @@ deepest_each d (x ∷ t) (suc i) h = deepest_each (max d x.depth) t i (omega ari
 
 module _ (below : ℕ → ℕ → Bool) (s : Sizes) (n : Network) (w : NetworkSound below s n) (place : ℕ) (here : place < length n.running) (e : Effect) where
   abbrev at : ℕ
-  at = (running_at n place).location
+  at = (job_at n place).location
 
   abbrev shelf : List TreeLines
   shelf = n.shelf ++ e.copies
@@ -218,11 +219,11 @@ module _ (count top : ℕ) (below : ℕ → ℕ → Bool) (t u : Tables) (n : Ne
   pub recall_kept : (position : ℕ) → Holds u (after_recall n position) → HoldsSound count top below u (after_recall n position)
   recall_kept position h = jobs_kept (without position n.running) h (recall_sound below S n w.sound position)
 
-  pub step_kept : (place : ℕ) → place < length n.running → (e : Effect) → EffectSound below S n.plan (policy_at n.plan (running_at n place).location) n.shelf e
+  pub step_kept : (place : ℕ) → place < length n.running → (e : Effect) → EffectSound below S n.plan (policy_at n.plan (job_at n place).location) n.shelf e
       → lacking (aftermath n place e) ≡ None → Holds u (after_step n place e) → HoldsSound count top below u (after_step n place e)
   step_kept place here e v room h = record {
     holds = h;
     sound = subst (λ (s : Sizes). NetworkSound below s (after_step n place e))
-        (sym (sizes_then count top t u n (set n.trees (running_at n place).location e.tree) (without place n.running ++ e.jobs) (n.shelf ++ e.copies) w.holds h))
+        (sym (sizes_then count top t u n (set n.trees (job_at n place).location e.tree) (without place n.running ++ e.jobs) (n.shelf ++ e.copies) w.holds h))
         (step_sound below S n w.sound place here e v room h.fits.edges);
   }

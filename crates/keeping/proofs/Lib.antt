@@ -1,3 +1,4 @@
+pub mod AllLaws
 pub mod Calling
 pub mod Growing
 pub mod Listed

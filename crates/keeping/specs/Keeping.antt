@@ -1,10 +1,8 @@
 -- Sound tables hold sound networks, and the calls that write keep them so.
-use Rattle.std.specs.Prelude.{◌≡◌, ℕ, ◌<◌, Bool, length, None, Ok, slice_index_or}
+use Rattle.std.specs.Prelude.{◌≡◌, ℕ, ◌<◌, Bool, length, None, Ok}
 use Rattle.order.specs.Laws.{Lawful}
-use Rattle.layout.specs.declared.memory.RunningRow.{RunningRow}
 use Rattle.layout.specs.declared.memory.Tables.{Tables}
 use Rattle.layout.specs.Network.{Network, network, Holds, Sized}
-use Rattle.layout.specs.Zeros.{no_running}
 use Rattle.matching.specs.Matching.{policy_at}
 use Rattle.standing.specs.Sizes.{sizes_of}
 use Rattle.shape.specs.declared.place.Stage.TheVariants.{Live}
@@ -13,6 +11,7 @@ use Rattle.rules.specs.Admission.{Admissible, Sound, live_fault}
 use Rattle.rooms.specs.Rooms.{lacking, left_in}
 use Rattle.machine.specs.Calls.{posted, after_post, after_recall}
 use Rattle.reduction.specs.Effects.{Effect, aftermath}
+use Rattle.reduction.specs.Values.{job_at}
 use Rattle.reduction.specs.Soundness.{NetworkSound, EffectSound}
 
 -- the tables hold the network, and it is sound
@@ -20,13 +19,9 @@ pub record HoldsSound (count top : ℕ) (below : ℕ → ℕ → Bool) (t : Tabl
   pub holds : Holds t n
   pub sound : NetworkSound below (sizes_of count top t) n
 
--- the running job at a place
-abbrev pub running_at : Network → ℕ → RunningRow
-running_at n place = slice_index_or n.running place no_running
-
 -- the network after a step of the job at this place
 abbrev pub after_step : Network → ℕ → Effect → Network
-after_step n place e = left_in n (running_at n place).location (aftermath n place e)
+after_step n place e = left_in n (job_at n place).location (aftermath n place e)
 
 pub record KeepingLaws : Type 0 where
   -- sound tables, whose arrays are as long as their types say, hold a sound network
@@ -50,5 +45,5 @@ pub record KeepingLaws : Type 0 where
       → (position : ℕ) → Holds u (after_recall n position) → HoldsSound count top below u (after_recall n position)
   pub step : (count top : ℕ) (below : ℕ → ℕ → Bool) (t u : Tables) (n : Network) → HoldsSound count top below t n
       → (place : ℕ) → place < length n.running → (e : Effect)
-      → EffectSound below (sizes_of count top t) n.plan (policy_at n.plan (running_at n place).location) n.shelf e
+      → EffectSound below (sizes_of count top t) n.plan (policy_at n.plan (job_at n place).location) n.shelf e
       → lacking (aftermath n place e) ≡ None → Holds u (after_step n place e) → HoldsSound count top below u (after_step n place e)

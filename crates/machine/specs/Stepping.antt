@@ -1,9 +1,7 @@
 -- A step of the job at a position, by the network before it: when it is granted, what it leaves, and when it is denied. `below a b`
 -- reads "role a is at or below role b".
-use Rattle.std.specs.Prelude.{◌≡◌, ℕ, ◌<◌, Bool, length, Some, None, slice_index_or}
-use Rattle.layout.specs.declared.memory.RunningRow.{RunningRow}
+use Rattle.std.specs.Prelude.{◌≡◌, ℕ, ◌<◌, Bool, length, Some, None}
 use Rattle.layout.specs.Network.{Network}
-use Rattle.layout.specs.Zeros.{no_running}
 use Rattle.meaning.specs.declared.verbs.Verb.{Verb}
 use Rattle.commands.specs.Rules.{SlotsAsk}
 use Rattle.typing.specs.Flow.{verb_at}
@@ -11,14 +9,11 @@ use Rattle.breaches.specs.Words.{running_standing}
 use Rattle.rooms.specs.declared.room.Room.{Room}
 use Rattle.rooms.specs.Rooms.{lacking, left_in}
 use Rattle.reduction.specs.Effects.{Effect, aftermath}
+use Rattle.reduction.specs.Values.{job_at}
 use Rattle.reduction.specs.Steps.{Reduces}
 use Rattle.machine.specs.declared.denial.Missing.TheVariants.{Position}
 use Rattle.machine.specs.declared.denial.Denial.{Denial}
 use Rattle.machine.specs.declared.denial.Denial.TheVariants as denial
-
--- the running job at the position
-abbrev pub job_at : Network → ℕ → RunningRow
-job_at n position = slice_index_or n.running position no_running
 
 module _ (below : ℕ → ℕ → Bool) (n : Network) (position : ℕ) where
   -- a job runs there, and its command means this verb

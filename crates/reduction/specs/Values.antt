@@ -4,13 +4,17 @@ use Rattle.rows.specs.declared.row.PathStepRow.{PathStepRow}
 use Rattle.layout.specs.declared.memory.Slot.{Slot}
 use Rattle.layout.specs.declared.memory.RunningRow.{RunningRow}
 use Rattle.layout.specs.Network.{TreeLines, Plan, Network}
-use Rattle.layout.specs.Zeros.{slot0}
+use Rattle.layout.specs.Zeros.{slot0, no_running}
 use Rattle.meaning.specs.declared.verbs.Operand.{Operand}
 use Rattle.meaning.specs.declared.verbs.Operand.TheVariants as operand
 use Rattle.slots.specs.declared.part.Part.{Part}
 use Rattle.slots.specs.declared.part.Part.TheVariants as part
 use Rattle.slots.specs.Slots.{part_by}
 use Rattle.replacing.specs.Pasting.{Pasted, plain}
+
+-- the running job at a position
+abbrev pub job_at : Network → ℕ → RunningRow
+job_at n position = slice_index_or n.running position no_running
 
 -- the tree of the job's location
 abbrev pub tree_of : Network → RunningRow → TreeLines

@@ -1,5 +1,6 @@
 -- The laws of steps as one record.
-use Rattle.sustaining.specs.StepLaws.{StepLaws, job_at}
+use Rattle.reduction.specs.Values.{job_at}
+use Rattle.sustaining.specs.StepLaws.{StepLaws}
 use Rattle.sustaining.proofs.Openness.{touched_open}
 use Rattle.sustaining.proofs.Readiness.{can_step}
 use Rattle.sustaining.proofs.Steps.{step_sound}

@@ -1,8 +1,6 @@
 -- What the layers above may use of steps, for every lawful order of roles.
-use Rattle.std.specs.Prelude.{◌≡◌, ℕ, ◌<◌, Bool, length, Some, slice_index_or}
-use Rattle.layout.specs.declared.memory.RunningRow.{RunningRow}
+use Rattle.std.specs.Prelude.{◌≡◌, ℕ, ◌<◌, Bool, length, Some}
 use Rattle.layout.specs.Network.{Network}
-use Rattle.layout.specs.Zeros.{no_running}
 use Rattle.meaning.specs.declared.verbs.Verb.{Verb}
 use Rattle.commands.specs.Rules.{SlotsAsk}
 use Rattle.typing.specs.Flow.{verb_at}
@@ -13,11 +11,7 @@ use Rattle.reduction.specs.Access.{Touches, OpenTo}
 use Rattle.reduction.specs.Effects.{Effect}
 use Rattle.reduction.specs.Soundness.{NetworkSound, EffectSound}
 use Rattle.reduction.specs.Steps.{Reduces}
-use Rattle.reduction.specs.Values.{tree_of}
-
--- the job at this place of the running list
-abbrev pub job_at : Network → ℕ → RunningRow
-job_at n place = slice_index_or n.running place no_running
+use Rattle.reduction.specs.Values.{job_at, tree_of}
 
 pub record StepLaws : Type 0 where
   -- what a step brings about is sound, rooms aside
