@@ -1,3 +1,4 @@
+pub mod Calls
 pub mod Holding
 pub mod Orders
 pub mod Replies

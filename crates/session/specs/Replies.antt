@@ -13,13 +13,16 @@ use Rattle.answer.specs.declared.answer.Answer.TheVariants as answer
 use Rattle.answer.specs.declared.answer.State.TheVariants as state
 use Rattle.words.specs.declared.unclear.Unclear.{Unclear}
 use Rattle.words.specs.declared.unclear.Why.TheVariants.{NoSuchTable, NoSuchRow, NoSuchField, TooWide}
+use Rattle.words.specs.declared.line.Call.{Call}
+use Rattle.words.specs.declared.line.Call.TheVariants as call
 use Rattle.words.specs.declared.line.OrderKind.{OrderKind}
 use Rattle.words.specs.declared.line.OrderKind.TheVariants as kind
 use Rattle.words.specs.Saying.{Asked, Given, Said, given}
-use Rattle.words.specs.Saying.Asked.{order, draw, below, under, opens, list, load, admit, close, dump, poke}
+use Rattle.words.specs.Saying.Asked.{order, draw, below, under, opens, list, load, admit, close, dump, poke, calls}
 use Rattle.words.specs.Saying.Said.{passed, asks, unclear}
 use Rattle.session.specs.Orders.{meaning}
 use Rattle.session.specs.Holding.{ClosesHere, AdmitsHere, StartsOver}
+use Rattle.session.specs.Calls.{PostsHere, StepsHere, RecallsHere, ShowsHere, AuditsHere}
 use Rattle.session.specs.declared.holding.Holding.{Holding}
 use Rattle.session.specs.declared.holding.Holding.TheVariants as holding
 use Rattle.session.specs.declared.between.Session.{Session}
@@ -95,6 +98,14 @@ pub record Untouched (before : Session) (t : Tables) (after : Session) (u : Tabl
   pub holding : after.holding ≡ before.holding
   pub tables : u ≡ t
 
+-- what a call on a live network is answered, and the tables after it
+abbrev pub Calls : Session → Tables → Call → Answer → Tables → Type 0
+Calls before t (call.Post location job) told u = PostsHere before.order before.holding t location job told u
+Calls before t (call.Step position) told u = StepsHere before.order before.holding t position told u
+Calls before t (call.Recall position) told u = RecallsHere before.order before.holding t position told u
+Calls before t (call.Show location row roles) told u = ShowsHere before.order before.holding t location row roles told × (u ≡ t)
+Calls before t call.Audit told u = AuditsHere before.order before.holding t told × (u ≡ t)
+
 -- what a command calls for, and the session and the tables after it
 abbrev pub Answers : Session → Tables → Asked → Reply → Session → Tables → Type 0
 Answers before t (order kind) r after u = (r ≡ reply.Answered answer.Ok) × FreshOf kind after.order × StartsOver before.holding after.holding u
@@ -111,6 +122,7 @@ Answers before t close r after u =
 Answers before t dump r after u = (r ≡ reply.Dump) × Same before t after u
 Answers before t (poke table row field value) r after u =
     (r ≡ reply.Answered (poke_answer (poked t table row field value).0)) × (after ≡ before) × (u ≡ (poked t table row field value).1)
+Answers before t (calls c) r after u = (told : Answer) × (r ≡ reply.Answered told) × Calls before t c told u × (after ≡ before)
 
 -- what a line calls for: nothing where it is passed over
 abbrev pub Replies : Session → Tables → Said → Option Reply → Session → Tables → Type 0

@@ -8,7 +8,7 @@ ghost use Rattle.session.specs.declared.holding.Holding.TheVariants as holding;
 ghost use Rattle.session.specs.declared.between.Reply.TheVariants as reply;
 ghost use Rattle.session.specs.Orders.{meaning};
 ghost use Rattle.session.specs.Holding.{state_of, admitted, LoadsHere, AdmitsHere, ClosesHere, StartsOver};
-ghost use Rattle.session.specs.Replies.{yes_no, FreshOf, DrawnFrom, Draws, CallsToLoad, word_of, poke_answer, Answers, Turns};
+ghost use Rattle.session.specs.Replies.{yes_no, FreshOf, DrawnFrom, Draws, CallsToLoad, word_of, poke_answer, Answers, Turns, Calls};
 
 use super::between::{Reply, Session, Standing};
 use super::holding::Holding;
@@ -21,7 +21,7 @@ use rights::Rights;
 use rules::{Fault, Live};
 use std::alloc::{AllocError, Global};
 use tables::{Blank, Draft};
-use words::{Command, LineError, OrderKind, Sheet, Unclear, Why, read_line};
+use words::{Call, Command, LineError, OrderKind, Sheet, Unclear, Why, read_line};
 
 fn yes_no(holds: bool) -> Answer
     ensures answer { result ≡ yes_no holds }
@@ -89,8 +89,8 @@ impl Standing {
         ensures answer { result ≡ admitted self.now draft tables.now }
     {
         match self {
-            Standing::Drawn(order) => rules::admit(draft, tables, order),
-            Standing::Rights(order) => rules::admit(draft, tables, order),
+            Standing::Drawn(order) => guarantee::admit(draft, tables, order),
+            Standing::Rights(order) => guarantee::admit(draft, tables, order),
         }
     }
 }
@@ -209,8 +209,27 @@ impl Session {
                     value,
                 },
             ))),
+            Command::Call(call) => Reply::Answered(self.call(tables, call)),
         };
         (self, reply)
+    }
+
+    // A call on a live network; the session stays what it is.
+    fn call(&self, tables: &mut Tables, call: Call) -> Answer
+        ensures answer { Calls self.now tables.old call result tables.new }
+    {
+        let order = &self.order;
+        match call {
+            Call::Post { location, job } => self.holding.post(order, tables, location, job),
+            Call::Step { position } => self.holding.step(order, tables, position),
+            Call::Recall { position } => self.holding.recall(order, tables, position),
+            Call::Show {
+                location,
+                row,
+                roles,
+            } => self.holding.show(order, tables, location, row, roles),
+            Call::Audit => self.holding.audit(order, tables),
+        }
     }
 
     // What one line of input calls for, unless it is passed over. The session goes on whatever it is.

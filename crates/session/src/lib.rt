@@ -3,6 +3,7 @@
 
 mod answers;
 mod between;
+mod calls;
 mod holding;
 
 pub use between::{Reply, Session};

@@ -4,6 +4,8 @@ use Rattle.std.specs.Prelude.{◌≡◌, ℕ, ◌+◌, Bool, cond, List, [], ◌
 use Rattle.std.specs.List.{slice_get}
 use Rattle.std.specs.Option.{ok_or}
 use Rattle.std.specs.Str.{bytes_eq}
+use Rattle.words.specs.declared.line.Call.{Call}
+use Rattle.words.specs.declared.line.Call.TheVariants as call
 use Rattle.words.specs.declared.line.Command.{Command}
 use Rattle.words.specs.declared.line.Command.TheVariants as command
 use Rattle.words.specs.declared.unclear.LineError.{LineError}
@@ -41,11 +43,7 @@ pub data Asked : Type 0 where
   close : Asked
   dump : Asked
   poke : ℕ → ℕ → ℕ → ℕ → Asked
-  post : (location job : ℕ) → Asked
-  step : (position : ℕ) → Asked
-  recall : (position : ℕ) → Asked
-  show : (location row roles : ℕ) → Asked
-  audit : Asked
+  calls : Call → Asked
 
 -- What a line says.
 pub data Said : Type 0 where
@@ -206,23 +204,23 @@ poke_asked words =
 
 -- `post LOCATION JOB`
 abbrev pub post_asked : List (List ℕ) → Result Asked Unclear
-post_asked words = then_ok (narrow_at words 1) (λ location. then_ok (narrow_at words 2) (λ job. then_ok (end_at words 3) (λ _. Ok (post location job))))
+post_asked words = then_ok (narrow_at words 1) (λ location. then_ok (narrow_at words 2) (λ job. then_ok (end_at words 3) (λ _. Ok (calls (call.Post location job)))))
 
 -- `step POSITION` and `recall POSITION`
 abbrev pub position_asked : List (List ℕ) → Result ℕ Unclear
 position_asked words = then_ok (narrow_at words 1) (λ position. then_ok (end_at words 2) (λ _. Ok position))
 
 abbrev pub step_asked : List (List ℕ) → Result Asked Unclear
-step_asked words = then_ok (position_asked words) (λ position. Ok (step position))
+step_asked words = then_ok (position_asked words) (λ position. Ok (calls (call.Step position)))
 
 abbrev pub recall_asked : List (List ℕ) → Result Asked Unclear
-recall_asked words = then_ok (position_asked words) (λ position. Ok (recall position))
+recall_asked words = then_ok (position_asked words) (λ position. Ok (calls (call.Recall position)))
 
 -- `show LOCATION ROW SET`
 abbrev pub show_asked : List (List ℕ) → Result Asked Unclear
 show_asked words =
     then_ok (narrow_at words 1) (λ location. then_ok (narrow_at words 2) (λ row. then_ok (set_at words 3) (λ roles.
-    then_ok (end_at words 4) (λ _. Ok (show location row roles)))))
+    then_ok (end_at words 4) (λ _. Ok (calls (call.Show location row roles))))))
 
 -- What the command of this name asks.
 abbrev pub asked_by : Option Name → List (List ℕ) → Result Asked Unclear
@@ -242,7 +240,7 @@ asked_by (Some name.Post) words = post_asked words
 asked_by (Some name.Step) words = step_asked words
 asked_by (Some name.Recall) words = recall_asked words
 asked_by (Some name.Show) words = show_asked words
-asked_by (Some name.Audit) words = alone words audit
+asked_by (Some name.Audit) words = alone words (calls call.Audit)
 
 -- What a line says that is no note.
 abbrev pub said_is : Result Asked Unclear → Said
@@ -280,11 +278,7 @@ asked_of command.Admit = admit
 asked_of command.Close = close
 asked_of command.Dump = dump
 asked_of (command.Poke table row field value) = poke table row field value
-asked_of (command.Post location job) = post location job
-asked_of (command.Step position) = step position
-asked_of (command.Recall position) = recall position
-asked_of (command.Show location row roles) = show location row roles
-asked_of command.Audit = audit
+asked_of (command.Call c) = calls c
 
 -- The same where a fault may stand in its place.
 abbrev pub asked : Result Command Unclear → Result Asked Unclear

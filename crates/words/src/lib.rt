@@ -12,6 +12,6 @@ mod spelled;
 mod unclear;
 
 pub use laws::reads_back;
-pub use line::{Command, OrderKind, Sheet};
+pub use line::{Call, Command, OrderKind, Sheet};
 pub use read::read_line;
 pub use unclear::{LineError, Unclear, Why};

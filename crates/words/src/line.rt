@@ -14,6 +14,30 @@ pub enum Sheet {
     File(Vec<u8>),
 }
 
+// The calls on a live network.
+#[derive(Clone, Copy, Debug, PartialEq, Eq)]
+pub enum Call {
+    // The job of this row is to start at the location.
+    Post {
+        location: u32,
+        job: u32,
+    },
+    // The running job at this position is to make its next step, or to be taken out.
+    Step {
+        position: u32,
+    },
+    Recall {
+        position: u32,
+    },
+    // This edge of the location is to be shown, if the roles open it.
+    Show {
+        location: u32,
+        row: u32,
+        roles: u64,
+    },
+    Audit,
+}
+
 #[derive(Debug, PartialEq, Eq, Drop)]
 pub enum Command {
     Order(OrderKind),
@@ -44,23 +68,5 @@ pub enum Command {
         field: u32,
         value: u64,
     },
-    // The job of this row is to start at the location.
-    Post {
-        location: u32,
-        job: u32,
-    },
-    // The running job at this position is to make its next step, or to be taken out.
-    Step {
-        position: u32,
-    },
-    Recall {
-        position: u32,
-    },
-    // This edge of the location is to be shown, if the roles open it.
-    Show {
-        location: u32,
-        row: u32,
-        roles: u64,
-    },
-    Audit,
+    Call(Call),
 }

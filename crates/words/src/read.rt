@@ -5,7 +5,7 @@ ghost use Rattle.words.specs.Saying.{Reads, order_asked, below_asked, under_aske
 
 use super::argument::Arguments;
 use super::cut::cut;
-use super::line::{Command, Sheet};
+use super::line::{Call, Command, Sheet};
 use super::named::{Name, Source, name_of};
 use super::unclear::{LineError, Unclear, Why};
 use std::alloc::Global;
@@ -102,7 +102,7 @@ fn post(words: &[&[u8]]) -> Result<Command, Unclear>
     let location = arguments.narrow()?;
     let job = arguments.narrow()?;
     arguments.end()?;
-    Ok(Command::Post { location, job })
+    Ok(Command::Call(Call::Post { location, job }))
 }
 
 // A position of the running list, and no more.
@@ -123,25 +123,25 @@ fn show(words: &[&[u8]]) -> Result<Command, Unclear>
     let row = arguments.narrow()?;
     let roles = arguments.role_set()?;
     arguments.end()?;
-    Ok(Command::Show {
+    Ok(Command::Call(Call::Show {
         location,
         row,
         roles,
-    })
+    }))
 }
 
 fn step(words: &[&[u8]]) -> Result<Command, Unclear>
     ensures answer { asked result ≡ step_asked (texts words.now) }
 {
     let position = position(words)?;
-    Ok(Command::Step { position })
+    Ok(Command::Call(Call::Step { position }))
 }
 
 fn recall(words: &[&[u8]]) -> Result<Command, Unclear>
     ensures answer { asked result ≡ recall_asked (texts words.now) }
 {
     let position = position(words)?;
-    Ok(Command::Recall { position })
+    Ok(Command::Call(Call::Recall { position }))
 }
 
 // The words are those of the command, its name among them.
@@ -164,7 +164,7 @@ fn asked_by(heap: Global, name: Option<Name>, words: &[&[u8]]) -> Result<Command
         Some(Name::Step) => Ok(step(words)?),
         Some(Name::Recall) => Ok(recall(words)?),
         Some(Name::Show) => Ok(show(words)?),
-        Some(Name::Audit) => Ok(alone(words, Command::Audit)?),
+        Some(Name::Audit) => Ok(alone(words, Command::Call(Call::Audit))?),
         None => Err(LineError::Unclear(Unclear {
             word: 0,
             why: Why::NotACommand,
