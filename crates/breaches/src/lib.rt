@@ -9,4 +9,5 @@ mod running;
 mod whole;
 
 pub use breach::{Rule, RuleBreach};
+pub use running::running_standing;
 pub use whole::{rules_breach, running_breach};

@@ -49,18 +49,18 @@ fn at(place: usize, rule: Rule) -> RuleBreach
     }
 }
 
-impl<O: Order> RunningJobs<'_, O> {
-    // A running job is held to the policy of its location, with its roles and the patterns that filled its slots.
-    fn standing(&self, job: &RunningRow) -> Standing
-        ensures answer { result ≡ running_standing (network self.now.tables.now).plan job.now }
-    {
-        Standing {
-            policy: policy_at(self.tables, job.location as usize),
-            roles: job.roles,
-            slots: fillers(&job.slots),
-        }
+// A running job is held to the policy of its location, with its roles and the patterns that filled its slots.
+pub fn running_standing(tables: &Tables, job: &RunningRow) -> Standing
+    ensures answer { result ≡ running_standing (network tables.now).plan job.now }
+{
+    Standing {
+        policy: policy_at(tables, job.location as usize),
+        roles: job.roles,
+        slots: fillers(&job.slots),
     }
+}
 
+impl<O: Order> RunningJobs<'_, O> {
     // What its roles or its commands break.
     fn command_rule(&self, job: &RunningRow) -> Option<CommandRule>
         ensures answer { result ≡ running_rule (O.below self.now.order.now) (network self.now.tables.now).plan job.now }
@@ -68,7 +68,7 @@ impl<O: Order> RunningJobs<'_, O> {
         ensures keeps { RunsTyped (O.below self.now.order.now) (network self.now.tables.now).plan job.now → result ≡ None }
         ensures breaks { IfSome result (RunsBroken (O.below self.now.order.now) (network self.now.tables.now).plan job.now) }
     {
-        let standing = self.standing(job);
+        let standing = running_standing(self.tables, job);
         if !set_below(
             self.order,
             least_of(self.tables, standing.policy),

@@ -45,7 +45,8 @@ impl<O: Order> Commands<'_, O> {
         }
     }
 
-    fn slots_pass(&self, standing: &Standing, verb: Verb) -> bool
+    // Whether each slot that the verb uses was filled with what the use needs.
+    pub fn slots_pass(&self, standing: &Standing, verb: Verb) -> bool
         ensures answer { result ≡ slots_pass (network self.now.tables.now).plan standing.now verb }
         ensures says { Decides result (SlotsAsk (network self.now.tables.now).plan standing.now verb) }
     {

@@ -9,5 +9,5 @@ pub returns-clause-breaks : goal.returns-clause-breaks
 returns-clause-breaks g c =
     by_command c.in_ok-breach.breach
     (subst (λ (s : Standing). Broken (g.O.Order.below c.args.self.now.order.now) (network c.args.self.now.tables.now).plan s c.args.job.now.command c.in_ok-breach.breach)
-    c.standing-standing.ensures.answer c.in_ok-breach.ensures.broken)
+    c.running_standing-standing.ensures.answer c.in_ok-breach.ensures.broken)
     refl
