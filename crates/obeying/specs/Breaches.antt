@@ -1,5 +1,5 @@
 -- The first breach, as functions that compute.
-use Rattle.std.specs.Prelude.{ℕ, zero, suc, ◌+◌, Bool, true, cond, not, ◌&&◌, ◌||◌, List, length, Some, None, Option, ◌==◌, bit_or, nat_lt, slice_index_or}
+use Rattle.std.specs.Prelude.{◌≡◌, ℕ, zero, suc, ◌+◌, ◌<◌, Bool, true, cond, not, ◌&&◌, ◌||◌, List, length, Some, None, Option, ◌==◌, bit_or, nat_lt, slice_index_or}
 use Rattle.order.specs.RoleSets.{set_below}
 use Rattle.rows.specs.declared.row.GrantRow.{GrantRow}
 use Rattle.rows.specs.declared.row.TreeLine.{TreeLine}
@@ -30,6 +30,10 @@ last_outer tree depth (suc n) = cond ((line tree n).depth + 1 == depth) (Some n)
 -- the edge above line i
 abbrev pub edge_above : TreeLines → ℕ → Option ℕ
 edge_above tree i = last_outer tree (line tree i).depth i
+
+-- a table of the edges above line n, by the depth that line n may have
+abbrev pub OuterRows : TreeLines → ℕ → List (Option ℕ) → Type 0
+OuterRows tree n outers = (depth : ℕ) → depth < length outers → slice_index_or outers depth None ≡ last_outer tree depth n
 
 -- the set of the line, if one is named, is ≤ the set
 abbrev pub line_below : (ℕ → ℕ → Bool) → TreeLines → Option ℕ → ℕ → Bool

@@ -1,9 +1,9 @@
 // Trees: which sets may lie under which, and which scripts.
-ghost use Rattle.std.specs.Prelude.{◌≡◌, ℕ, ◌<◌, ◌&&◌, ◌==◌, nat_lt, slice_index_or, length, IfSome, None, Decides, MatchOption};
+ghost use Rattle.std.specs.Prelude.{◌≡◌, ℕ, ◌<◌, ◌&&◌, ◌==◌, ◌+◌, nat_lt, slice_index_or, length, IfSome, None, Decides, MatchOption};
 ghost use Rattle.layout.specs.Zeros.{job0};
 ghost use Rattle.order.specs.RoleSets.{SetBelow};
 ghost use Rattle.obeying.specs.Rules.{line, Above, ScriptObeys, TreeObeys, Asks, number_of, LowestBroken, FirstBroken};
-ghost use Rattle.obeying.specs.Breaches.{edge_above, line_below, script_passes, line_breach, tree_breach};
+ghost use Rattle.obeying.specs.Breaches.{edge_above, OuterRows, line_below, script_passes, line_breach, tree_breach};
 
 use meaning::ContentKind;
 use order::{Order, RoleSet, set_below};
@@ -48,12 +48,11 @@ pub struct Policy<'a, O> {
     pub jobs: &'a [JobRow],
 }
 
-// The edge above the line of this row: the nearest line before it whose depth is one less.
+// The nearest line before that of this row whose depth is one less, looked for line by line.
 #[tactic(auto, unfolding(crate::specs::Breaches::last_outer))]
-fn edge_above(tree: &[TreeLine], row: usize) -> Option<usize>
+fn last_outer(tree: &[TreeLine], row: usize) -> Option<usize>
     requires { row < length tree.now }
     ensures answer { result ≡ edge_above tree.now row }
-    ensures says { MatchOption result ((j : ℕ) → Above tree.now j row → ⊥) (λ j. Above tree.now j row) }
 {
     let depth = tree[row].depth as u64;
     // By `rposition` the goals stayed open.
@@ -65,13 +64,43 @@ fn edge_above(tree: &[TreeLine], row: usize) -> Option<usize>
     None
 }
 
+// The edge above the line of this row. The table has it at the line's depth; only for a line that is deeper than the table goes,
+// as none of a tree is, are the lines before it looked at.
+#[tactic(auto, using(crate::proofs::Outers::edge_above_says))]
+fn edge_above(tree: &[TreeLine], outers: &[Option<usize>], row: usize) -> Option<usize>
+    requires inside { row < length tree.now }
+    requires outers { OuterRows tree.now row outers.now }
+    ensures answer { result ≡ edge_above tree.now row }
+    ensures says { MatchOption result ((j : ℕ) → Above tree.now j row → ⊥) (λ j. Above tree.now j row) }
+{
+    match outers.get(tree[row].depth as usize) {
+        Some(above) => *above,
+        None => last_outer(tree, row),
+    }
+}
+
+// The table for the next row: a line that is one deeper than this one would lie under it.
+#[tactic(auto, using(crate::proofs::Outers::outers_noted, crate::proofs::Outers::outers_kept))]
+fn note_row(outers: &mut [Option<usize>], tree: &[TreeLine], row: usize)
+    requires inside { row < length tree.now }
+    requires outers { OuterRows tree.now row outers.old }
+    ensures after { OuterRows tree.now (row + 1) outers.new }
+{
+    let next = tree[row].depth as usize + 1;
+    if next < outers.len() {
+        outers[next] = Some(row);
+    }
+}
+
 impl<O: Order> Policy<'_, O> {
-    fn above_obeys(&self, tree: &[TreeLine], row: usize) -> bool
-        requires { row < length tree.now }
+    fn above_obeys(&self, tree: &[TreeLine], outers: &[Option<usize>], row: usize) -> bool
+        requires inside { row < length tree.now }
+        requires outers { OuterRows tree.now row outers.now }
         ensures answer { result ≡ line_below (O.below self.now.order.now) tree.now (edge_above tree.now row) (line tree.now row).set }
         ensures says { Decides result ((j : ℕ) → Above tree.now j row → SetBelow (O.below self.now.order.now) (line tree.now j).set (line tree.now row).set) }
     {
-        edge_above(tree, row).is_none_or(|j| set_below(self.order, tree[j].set, tree[row].set))
+        let above = edge_above(tree, outers, row);
+        above.is_none_or(|j| set_below(self.order, tree[j].set, tree[row].set))
     }
 
     // Whether the job is there, and of the policy.
@@ -97,14 +126,15 @@ impl<O: Order> Policy<'_, O> {
 
     // The lowest rule that the line of this row breaks.
     #[tactic(auto, unfolding(crate::specs::Breaches::line_breach))]
-    fn line_breach(&self, tree: &[TreeLine], row: usize) -> Option<Rule>
-        requires { row < length tree.now }
+    fn line_breach(&self, tree: &[TreeLine], outers: &[Option<usize>], row: usize) -> Option<Rule>
+        requires inside { row < length tree.now }
+        requires outers { OuterRows tree.now row outers.now }
         ensures answer { result ≡ line_breach (O.below self.now.order.now) self.now.least self.now.jobs.now self.now.number tree.now row }
         ensures says { LowestBroken (Asks (O.below self.now.order.now) self.now.least self.now.jobs.now self.now.number tree.now row) result }
     {
         if !set_below(self.order, self.least, tree[row].set) {
             Some(Rule::Least)
-        } else if !self.above_obeys(tree, row) {
+        } else if !self.above_obeys(tree, outers, row) {
             Some(Rule::Above)
         } else if !self.script_obeys(tree[row]) {
             Some(Rule::Script)
@@ -122,11 +152,14 @@ impl<O: Order> Policy<'_, O> {
         ensures told { TreeObeys (O.below self.now.order.now) self.now.least self.now.jobs.now self.now.number tree.now → result ≡ None }
         ensures first { IfSome result (FirstBroken (Asks (O.below self.now.order.now) self.now.least self.now.jobs.now self.now.number tree.now) (length tree.now)) }
     {
+        // The edge above the next line, by that line's depth, which is at most 12 in a tree.
+        let mut outers = [None; 13];
         // A row is asked about among the others, so it goes by its number.
         for row in 0..tree.len() {
-            if let Some(rule) = self.line_breach(tree, row) {
+            if let Some(rule) = self.line_breach(tree, &outers, row) {
                 return Some(Breach { row, rule });
             }
+            note_row(&mut outers, tree, row);
         }
         None
     }

@@ -1,9 +1,0 @@
-use Rattle.std.proofs.Common.{◌≡◌, ℕ, ◌+◌, ◌<◌, ◌≤◌}
-use Rattle.obeying.specs.Rules.{line}
-use Rattle.obeying.specs.Breaches.{last_outer, edge_above}
-use Rattle.obeying.proofs.trees.edge_above.Given as goal
-
-abbrev pub invariant-loop-k : goal.invariant-loop-k
-invariant-loop-k l =
-    (last_outer l.tree (line l.tree l.row).depth l.k ≡ edge_above l.tree l.row)
-    × ((k : ℕ) → l.k ≤ k → k < l.row → (line l.tree k).depth + 1 ≡ (line l.tree l.row).depth → ⊥)
