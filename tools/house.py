@@ -3,33 +3,12 @@
 
 Five presses and an office. Roles: 0 owner (the top), 1 hand, 2 foreman, 3 master, 4 sampler, 5 fitter, drawn by the pairs
 (1,2) (2,3) (4,3) (5,3)."""
-import os
+from sheets import *
 
-OWNER, HAND, FOREMAN, MASTER, SAMPLER, FITTER = range(6)
-TREE, NUMBER, SCRIPT, POINTER, HELD, TEMPLATE = range(6)
-FORK, GO, RUN, READ, CHANGE, ENABLE, DISABLE = range(1, 8)
-ROW, SLOT = 0, 1
 OFFICE = 5
 
-
-def roles(*codes):
-    return sum(1 << c for c in codes)
-
-
-def number(n):
-    out = bytearray()
-    while n >= 128:
-        out.append(n % 128 + 128)
-        n //= 128
-    out.append(n)
-    return bytes(out)
-
-
-lines = []
-
-
-def line(kind, *fields):
-    lines.append(number(kind) + b"".join(number(f) for f in fields))
+sheet = Sheet()
+line = sheet.line
 
 
 # the policies of presses and of the office, by their least sets
@@ -123,7 +102,4 @@ line(9, 0, roles(MASTER), 16)
 line(9, 0, roles(FITTER), 20)
 line(9, 0, roles(HAND), 22)
 
-here = os.path.dirname(os.path.abspath(__file__))
-with open(os.path.join(here, "..", "crates", "console", "data", "house.sheet"), "wb") as out:
-    out.write(b"".join(lines))
-print(len(lines), "lines,", sum(map(len, lines)), "bytes")
+sheet.write("house.sheet")

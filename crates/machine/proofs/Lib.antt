@@ -1,1 +1,2 @@
+pub mod Readying
 pub mod Running

@@ -1,6 +1,7 @@
 -- A step of the job at a position, by the network before it: when it is granted, what it leaves, and when it is denied. `below a b`
 -- reads "role a is at or below role b".
-use Rattle.std.specs.Prelude.{◌≡◌, ℕ, ◌<◌, Bool, length, Some, None}
+use Rattle.std.specs.Prelude.{◌≡◌, ℕ, ◌<◌, Bool, length, Some, None, Ok, Err, Result}
+use Rattle.layout.specs.declared.memory.RunningRow.{RunningRow}
 use Rattle.layout.specs.Network.{Network}
 use Rattle.meaning.specs.declared.verbs.Verb.{Verb}
 use Rattle.commands.specs.Rules.{SlotsAsk}
@@ -49,3 +50,8 @@ module _ (below : ℕ → ℕ → Bool) (n : Network) (position : ℕ) where
     unfit : (v : Verb) → Does v → (SlotsFit v → ⊥) → d ≡ denial.Unfit position → Denied d
     crowded : (v : Verb) → Does v → SlotsFit v → (e : Effect) → Reduces below n (job_at n position) v e
         → (room : Room) → lacking (aftermath n position e) ≡ Some room → d ≡ denial.NoRoom room → Denied d
+
+  -- the job that is to make the step, and its verb, where a job runs there and its slots are fit; else why the step is denied
+  abbrev pub ReadyFor : Result (RunningRow × Verb) Denial → Type 0
+  ReadyFor (Ok found) = (found.0 ≡ job_at n position) × Does found.1 × SlotsFit found.1
+  ReadyFor (Err d) = Denied d

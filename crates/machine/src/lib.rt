@@ -3,6 +3,7 @@
 
 mod auditing;
 mod denial;
+mod moving;
 mod posting;
 mod recalling;
 mod showing;
