@@ -11,7 +11,7 @@ use rows::CommandRow;
 use slots::{destination, filled};
 
 // The command of a number, from 1; 0 and a number that is not there give a row of zeros.
-pub(crate) fn command_at(tables: &Tables, number: u32) -> CommandRow
+pub fn command_at(tables: &Tables, number: u32) -> CommandRow
     ensures answer { result ≡ command_at (network tables.now).plan number }
 {
     let row = (number as usize).wrapping_sub(1);

@@ -6,4 +6,5 @@ mod flow;
 mod laws;
 
 pub use breach::{CommandBreach, first_breach};
+pub use flow::command_at;
 pub use laws::typing_keeps_its_laws;
