@@ -1,0 +1,4 @@
+pub mod Assembled
+pub mod Holdings
+pub mod NoSteps
+pub mod OneLine
