@@ -1,5 +1,5 @@
 -- What slots hold is not deep, and a change is the same by each of its names.
-use Rattle.std.proofs.Common.{◌≡◌, ℕ, ◌<◌, ◌≤◌, Bool, List, [], length, get_or, Some, None, Option, sym, subst, ◌+◌, arith}
+use Rattle.std.proofs.Common.{◌≡◌, ℕ, Bool, List, [], get_or, Some, None, Option, sym, subst, ◌+◌, arith}
 use Rattle.std.proofs.Math.Path.{fun_ext}
 use Rattle.rows.specs.declared.row.TemplateRow.{TemplateRow}
 use Rattle.layout.specs.declared.memory.RunningRow.{RunningRow}

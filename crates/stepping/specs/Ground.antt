@@ -1,5 +1,5 @@
 -- What a step rests on.
-use Rattle.std.specs.Prelude.{◌≡◌, ℕ, ◌<◌, ◌≤◌, [], length, slice_index_or, IsSome}
+use Rattle.std.specs.Prelude.{ℕ, ◌<◌, ◌≤◌, [], length, slice_index_or, IsSome}
 use Rattle.layout.specs.declared.memory.RunningRow.{RunningRow}
 use Rattle.layout.specs.Network.{Plan, Network}
 use Rattle.layout.specs.Zeros.{template0}

@@ -8,7 +8,7 @@ use Rattle.meaning.specs.declared.patterns.Pattern.TheVariants as pattern
 use Rattle.obeying.specs.TreeLaws.{under}
 use Rattle.rooms.specs.declared.scratch.Scratch.{Scratch}
 use Rattle.rooms.specs.Rooms.{Aftermath, scratch_of}
-use Rattle.rooms.specs.Joining.{shelved}
+use Rattle.rooms.specs.Joining.{joined_by, shelved}
 use Rattle.edges.specs.Rows.{flagged_rows}
 use Rattle.reduction.specs.Effects.{script_at, scripts, copies, reader, readers}
 use Rattle.successors.specs.Successors.{with_jobs, with_copies, FlagsOf}
@@ -48,15 +48,18 @@ readers_push r next m filler tree number (x ∷ rows) row =
 -- ---- scratch
 
 pub none_joined : (s : Scratch) (a : Aftermath) → s ≡ scratch_of a → s ≡ scratch_of (with_jobs a [])
+unfolding with_jobs
 none_joined s a e = e ∙ ap (λ js. scratch_of (record { running = js; shelf = a.shelf; tree = a.tree })) (sym (append-nil a.running))
 
 pub nothing_more : (s : Scratch) (a : Aftermath) → s ≡ scratch_of a → s ≡ scratch_of (with_copies a [] [])
+unfolding with_jobs with_copies
 nothing_more s a e =
     none_joined s a e ∙ ap (λ trees. scratch_of (record { running = a.running ++ []; shelf = trees; tree = a.tree })) (sym (append-nil a.shelf))
 
 -- one tree more
 pub one_copy : (s : Scratch) (a : Aftermath) (tree : TreeLines) → s ≡ scratch_of (record { running = a.running; shelf = a.shelf ++ (tree ∷ []); tree = a.tree })
     → s ≡ scratch_of (with_copies a [] (tree ∷ []))
+unfolding with_copies
 one_copy s a tree e = e ∙ ap (λ js. scratch_of (record { running = js; shelf = a.shelf ++ (tree ∷ []); tree = a.tree })) (sym (append-nil a.running))
 
 not_tree : (m : Pattern) (tree : TreeLines) (rows : List ℕ) → ((slot policy top all : ℕ) → m ≡ pattern.Tree slot policy top all → ⊥) → copies m tree rows ≡ []
@@ -77,20 +80,27 @@ one_copied s a m tree row slot policy top all copy is same e =
 
 -- jobs behind jobs
 pub jobs_twice : (s : Scratch) (a : Aftermath) (xs ys zs : List RunningRow) → zs ≡ xs ++ ys → s ≡ scratch_of (with_jobs (with_jobs a xs) ys) → s ≡ scratch_of (with_jobs a zs)
+unfolding with_jobs
 jobs_twice s a xs ys zs whole e =
     e ∙ ap (λ js. scratch_of (record { running = js; shelf = a.shelf; tree = a.tree })) (append_assoc a.running xs ys ∙ ap (λ js. a.running ++ js) (sym whole))
 
 -- jobs and copies behind jobs and copies
 pub copies_twice : (s : Scratch) (a : Aftermath) (xs ys zs : List RunningRow) (ts us cs : List TreeLines) → zs ≡ xs ++ ys → cs ≡ ts ++ us
     → s ≡ scratch_of (with_copies (with_copies a xs ts) ys us) → s ≡ scratch_of (with_copies a zs cs)
+unfolding with_copies
 copies_twice s a xs ys zs ts us cs whole all e =
     let jobs : (a.running ++ xs) ++ ys ≡ a.running ++ zs = append_assoc a.running xs ys ∙ ap (λ js. a.running ++ js) (sym whole) in
     let trees : (a.shelf ++ ts) ++ us ≡ a.shelf ++ cs = append_assoc a.shelf ts us ∙ ap (λ vs. a.shelf ++ vs) (sym all) in
     e ∙ (λ i. scratch_of (record { running = jobs i; shelf = trees i; tree = a.tree }))
 
+pub as_joined : (s : Scratch) (a : Aftermath) (job : RunningRow) → s ≡ scratch_of (joined_by a job) → s ≡ scratch_of (with_jobs a (job ∷ []))
+unfolding with_jobs
+as_joined s a job e = e
+
 -- one job, and then copies
 pub job_and_copies : (s : Scratch) (a : Aftermath) (job : RunningRow) (cs : List TreeLines) → s ≡ scratch_of (with_copies (with_jobs a (job ∷ [])) [] cs)
     → s ≡ scratch_of (with_copies a (job ∷ []) cs)
+unfolding with_jobs with_copies
 job_and_copies s a job cs e =
     e ∙ ap (λ js. scratch_of (record { running = js; shelf = a.shelf ++ cs; tree = a.tree })) (append-nil (a.running ++ (job ∷ [])))
 

@@ -5,11 +5,11 @@ use Rattle.layout.specs.Network.{TreeLines}
 use Rattle.rooms.specs.Rooms.{Aftermath}
 
 -- these jobs are the last of the running ones
-abbrev pub with_jobs : Aftermath → List RunningRow → Aftermath
+unfoldable pub with_jobs : Aftermath → List RunningRow → Aftermath
 with_jobs a jobs = record { running = a.running ++ jobs; shelf = a.shelf; tree = a.tree }
 
 -- and these trees the last on the shelf
-abbrev pub with_copies : Aftermath → List RunningRow → List TreeLines → Aftermath
+unfoldable pub with_copies : Aftermath → List RunningRow → List TreeLines → Aftermath
 with_copies a jobs copies = record { running = a.running ++ jobs; shelf = a.shelf ++ copies; tree = a.tree }
 
 -- flags of a tree's lines: no other is set

@@ -8,6 +8,7 @@ use layout::RunningRow;
 use rooms::Scratch;
 
 // The job at its next command; 0 makes no job.
+#[tactic(auto, unfolding(crate::specs::Successors::with_jobs), using(crate::proofs::More::none_joined))]
 pub fn go_on(job: RunningRow, next: u32, scratch: &mut Scratch)
     ensures after { (a : Aftermath) → scratch.old ≡ scratch_of a → scratch.new ≡ scratch_of (with_jobs a (goes_on job next)) }
 {

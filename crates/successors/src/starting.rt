@@ -26,6 +26,7 @@ fn job_at(tables: &Tables, job: u32) -> JobRow
 }
 
 // The job of the script on the line of this row starts, if a script lies there.
+#[tactic(auto, unfolding(crate::specs::Successors::with_jobs), using(crate::proofs::More::none_joined))]
 fn start_script(
     tables: &Tables,
     location: u32,

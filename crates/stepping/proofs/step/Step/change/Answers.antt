@@ -15,21 +15,23 @@ returns g c =
     let after = c.changed.ensures.says.0 in
     let next = goes_on r (next_of n r) in
     record {
-      says = (record { found = flagged_count flags; jobs = next; copies = []; tree = after },
-          record {
-            pattern = c.pattern-pattern.result;
-            there = c.pattern-pattern.ensures.answer;
-            flags = flags;
-            found = c.count.ensures.says.1;
-            matches = c.matched-matches.result;
-            matched = c.matched-matches.ensures.says;
-            after = after;
-            changed = c.changed.ensures.says.1;
-            effect = refl;
-          },
-          record {
-            count = c.count.ensures.says.2;
-            left = left_tree n c.args.self.now.place r.location c.leave.new.scratch after next
-                (c.leave.ensures.after (begun n c.args.self.now.place r.location) after c.requires.begun c.changed.ensures.says.2);
-          });
+      says = (
+        record { found = flagged_count flags; jobs = next; copies = []; tree = after },
+        record {
+          pattern = c.pattern-pattern.result;
+          there = c.pattern-pattern.ensures.answer;
+          flags = flags;
+          found = c.count.ensures.says.1;
+          matches = c.matched-matches.result;
+          matched = c.matched-matches.ensures.says;
+          after = after;
+          changed = c.changed.ensures.says.1;
+          effect = refl;
+        },
+        record {
+          count = c.count.ensures.says.2;
+          left = left_tree n c.args.self.now.place r.location c.leave.new.scratch after next
+              (c.leave.ensures.after (begun n c.args.self.now.place r.location) after c.requires.begun c.changed.ensures.says.2);
+        },
+      );
     }

@@ -1,4 +1,3 @@
-use Rattle.layout.specs.Held.{in_use}
 use Rattle.layout.specs.Network.{network}
 use Rattle.changes.specs.Pastes.{held}
 use Rattle.replacing.specs.Holding.{slot_of}

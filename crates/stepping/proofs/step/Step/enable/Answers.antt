@@ -15,11 +15,13 @@ returns g c =
     let after = c.enabled.ensures.says.0 in
     let next = goes_on r (next_of n r) in
     record {
-      says = (record { found = flagged_count flags; jobs = next; copies = []; tree = after },
-          record { flags = flags; found = c.count.ensures.says.1; after = after; enabled = c.enabled.ensures.says.1; effect = refl },
-          record {
-            count = c.count.ensures.says.2;
-            left = left_tree n c.args.self.now.place r.location c.leave.new.scratch after next
-                (c.leave.ensures.after (begun n c.args.self.now.place r.location) after c.requires.begun c.enabled.ensures.says.2);
-          });
+      says = (
+        record { found = flagged_count flags; jobs = next; copies = []; tree = after },
+        record { flags = flags; found = c.count.ensures.says.1; after = after; enabled = c.enabled.ensures.says.1; effect = refl },
+        record {
+          count = c.count.ensures.says.2;
+          left = left_tree n c.args.self.now.place r.location c.leave.new.scratch after next
+              (c.leave.ensures.after (begun n c.args.self.now.place r.location) after c.requires.begun c.enabled.ensures.says.2);
+        },
+      );
     }

@@ -17,18 +17,20 @@ returns g c =
     let jobs = cond (next_of n r == 0) [] (readers r (next_of n r) c.pattern-pattern.result c.args.row (tree_of n r) (length n.shelf) (flagged_rows matches)) in
     let copied = cond (next_of n r == 0) [] (copies c.pattern-pattern.result (tree_of n r) (flagged_rows matches)) in
     record {
-      says = (record { found = flagged_count flags; jobs = jobs; copies = copied; tree = tree_of n r },
-          record {
-            pattern = c.pattern-pattern.result;
-            there = c.pattern-pattern.ensures.answer;
-            flags = flags;
-            found = c.count.ensures.says.1;
-            matches = matches;
-            matched = c.matched-matches.ensures.says;
-            effect = refl;
-          },
-          record {
-            count = c.count.ensures.says.2;
-            left = left_copies n c.args.self.now.place r.location c.read_flagged.new.scratch jobs copied (c.read_flagged.ensures.after (begun n c.args.self.now.place r.location) c.requires.begun);
-          });
+      says = (
+        record { found = flagged_count flags; jobs = jobs; copies = copied; tree = tree_of n r },
+        record {
+          pattern = c.pattern-pattern.result;
+          there = c.pattern-pattern.ensures.answer;
+          flags = flags;
+          found = c.count.ensures.says.1;
+          matches = matches;
+          matched = c.matched-matches.ensures.says;
+          effect = refl;
+        },
+        record {
+          count = c.count.ensures.says.2;
+          left = left_copies n c.args.self.now.place r.location c.read_flagged.new.scratch jobs copied (c.read_flagged.ensures.after (begun n c.args.self.now.place r.location) c.requires.begun);
+        },
+      );
     }

@@ -16,10 +16,12 @@ returns g c =
     let next = goes_on r (next_of n r) in
     let started = scripts n.plan r.location (tree_of n r) (flagged_rows flags) in
     record {
-      says = (record { found = flagged_count flags; jobs = next ++ started; copies = []; tree = tree_of n r },
-          record { flags = flags; found = c.found-flags.ensures.says; effect = refl },
-          record {
-            count = c.count_found.ensures.answer;
-            left = left_two n c.args.self.now.place r.location c.run_flagged.new.scratch next started (c.run_flagged.ensures.after (begun n c.args.self.now.place r.location) c.requires.begun);
-          });
+      says = (
+        record { found = flagged_count flags; jobs = next ++ started; copies = []; tree = tree_of n r },
+        record { flags = flags; found = c.found-flags.ensures.says; effect = refl },
+        record {
+          count = c.count_found.ensures.answer;
+          left = left_two n c.args.self.now.place r.location c.run_flagged.new.scratch next started (c.run_flagged.ensures.after (begun n c.args.self.now.place r.location) c.requires.begun);
+        },
+      );
     }
