@@ -12,5 +12,5 @@ pub returns-then-not-slots_fit : goal.returns-then-not-slots_fit
 returns-then-not-slots_fit g c = record {
   says =
     not_fit (g.O.Order.below c.args.order.now) (network c.args.tables.now) c.args.position c.in-Some.job c.in-Some.ensures.says c.verb_of-verb.result c.verb_of-verb.ensures.answer
-    (λ f. both_ways c.slots_fit.result (c.slots_fit.ensures.says.1 f) c.if-not-slots_fit.true);
+    (λ f. both_ways c.slots_fit.result c.if-not-slots_fit.true (c.slots_fit.ensures.says.1 f));
 }

@@ -1,0 +1,4 @@
+pub mod Assembled
+pub mod Grounded
+pub mod Holdings
+pub mod OneLine

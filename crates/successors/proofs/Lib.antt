@@ -1,0 +1,2 @@
+pub mod FlaggedSoFar
+pub mod More
