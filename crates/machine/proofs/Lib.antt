@@ -1,2 +1,3 @@
 pub mod Readying
 pub mod Running
+pub mod Stepping

@@ -9,10 +9,17 @@ use Rattle.shape.specs.declared.place.Stage.TheVariants as stage
 use Rattle.shape.specs.Place.{first_place}
 use Rattle.rules.specs.declared.fault.Fault.{Fault}
 use Rattle.rules.specs.Admission.{live_fault}
+use Rattle.rooms.specs.declared.room.Room.{Room}
+use Rattle.rooms.specs.Rooms.{Aftermath, lacking, left_in}
 use Rattle.machine.specs.declared.denial.Denial.{Denial}
 use Rattle.machine.specs.declared.denial.Denial.TheVariants as denial
 use Rattle.machine.specs.Calls.{in_shape, posted, after_post, recalled, after_recall, shown, shown_in}
 use Rattle.machine.specs.Stepping.{Granted, Denied}
+
+-- what a step leaves at the location is written where there is room for it; else the first room that is too small is told
+abbrev pub Settled : Tables → Network → ℕ → ℕ → Aftermath → Result ℕ Denial → Tables → Type 0
+Settled before n location found a (Ok answer) after = (answer ≡ found) × (lacking a ≡ None) × Holds after (left_in n location a)
+Settled before n location found a (Err d) after = (room : Room) × (lacking a ≡ Some room) × (d ≡ denial.NoRoom room) × (after ≡ before)
 
 module _ (count top : ℕ) (below : ℕ → ℕ → Bool) (before : Tables) where
   -- the first place where the tables are out of shape, if there is one

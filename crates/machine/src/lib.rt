@@ -10,6 +10,7 @@ mod showing;
 
 pub use auditing::audit;
 pub use denial::{Denial, Missing};
+pub use moving::step;
 pub use posting::post;
 pub use recalling::recall;
 pub use showing::show;

@@ -11,6 +11,6 @@ verb_of-verb-requires g c = record {
 pub returns-then-not-slots_fit : goal.returns-then-not-slots_fit
 returns-then-not-slots_fit g c = record {
   says =
-    not_fit (g.O.Order.below c.args.order.now) (network c.args.tables.now) c.args.position c.in-Some.job c.in-Some.ensures.says c.verb_of-verb.result c.verb_of-verb.ensures.answer
-    (λ f. both_ways c.slots_fit.result c.if-not-slots_fit.true (c.slots_fit.ensures.says.1 f));
+      not_fit (g.O.Order.below c.args.order.now) (network c.args.tables.now) c.args.position c.in-Some.job c.in-Some.ensures.says c.verb_of-verb.result c.verb_of-verb.ensures.answer
+      (λ f. both_ways c.slots_fit.result c.if-not-slots_fit.true (c.slots_fit.ensures.says.1 f));
 }
