@@ -1,6 +1,6 @@
 // Rows that may be more than a table has room for.
 ghost use Rattle.std.specs.Prelude.{◌≡◌, ◌++◌, ◌∷◌, [], List, false};
-ghost use Rattle.rooms.specs.Filled.{filled_of};
+ghost use Rattle.rooms.specs.Filled.{filled_of, added};
 
 use layout::Table;
 
@@ -13,8 +13,9 @@ pub struct Filled<T, const N: usize> {
 
 impl<T: Copy, const N: usize> Filled<T, N> {
     // One row more; where there is no room for it, that is noted.
-    #[tactic(auto, using(crate::proofs::Adding::taken, crate::proofs::Adding::unwritten))]
+    #[tactic(auto, unfolding(crate::specs::Filled::added), using(crate::proofs::Adding::taken, crate::proofs::Adding::unwritten))]
     pub fn add(&mut self, row: T)
+        ensures adds { self.new ≡ added N self.old row }
         ensures after { (zero : T) (rows : List T) → self.old ≡ filled_of N zero rows → self.new ≡ filled_of N zero (rows ++ (row ∷ [])) }
     {
         if self.table.push(row).is_err() {

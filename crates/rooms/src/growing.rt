@@ -1,8 +1,8 @@
 // What a step adds: its successors join the end of the running list, and copied trees the end of the shelf.
-ghost use Rattle.std.specs.Prelude.{◌≡◌, ◌++◌, ◌∷◌, [], List};
+ghost use Rattle.std.specs.Prelude.{◌≡◌};
 ghost use Rattle.layout.specs.Network.{TreeLines};
 ghost use Rattle.outcomes.specs.Outcomes.{outcome_of};
-ghost use Rattle.rooms.specs.Filled.{filled_of};
+ghost use Rattle.rooms.specs.Filled.{added_all};
 ghost use Rattle.rooms.specs.Joining.{joined_by, shelved, with_tree};
 ghost use Rattle.rooms.specs.Rooms.{Aftermath, scratch_of};
 
@@ -15,7 +15,7 @@ use rows::TreeLine;
 impl<T: Copy, const N: usize> Filled<T, N> {
     // These rows, one behind the other.
     fn add_all(&mut self, rows: &[T])
-        ensures after { (zero : T) (before : List T) → self.old ≡ filled_of N zero before → self.new ≡ filled_of N zero (before ++ rows.now) }
+        ensures adds { self.new ≡ added_all N self.old rows.now }
     {
         for row in rows {
             self.add(*row);
@@ -25,6 +25,7 @@ impl<T: Copy, const N: usize> Filled<T, N> {
 
 impl Scratch {
     // One running job more, the last of them.
+    #[tactic(auto, using(crate::proofs::Joined::with_job))]
     pub fn join(&mut self, job: RunningRow)
         ensures after { (a : Aftermath) → self.old ≡ scratch_of a → self.new ≡ scratch_of (joined_by a job) }
     {
@@ -32,6 +33,7 @@ impl Scratch {
     }
 
     // One tree more on the shelf, the last of them.
+    #[tactic(auto, using(crate::proofs::Joined::with_shelved))]
     pub fn shelve(&mut self, tree: &[TreeLine])
         ensures after { (a : Aftermath) → self.old ≡ scratch_of a → self.new ≡ scratch_of (shelved a tree.now) }
     {
