@@ -103,6 +103,16 @@ impl Standing {
         }
     }
 
+    fn step(&self, live: &Live, tables: &mut Tables, position: u32) -> Result<usize, Denial>
+        ensures done { Stepped (count_of self.now) (top_of self.now) (meaning self.now) tables.old position result tables.new }
+    {
+        let position = position as usize;
+        match self {
+            Standing::Drawn(order) => machine::step(live, tables, order, position),
+            Standing::Rights(order) => machine::step(live, tables, order, position),
+        }
+    }
+
     fn recall(&self, live: &Live, tables: &mut Tables, position: u32) -> Result<(), Denial>
         ensures answer { RecallAnswers (count_of self.now) (top_of self.now) (meaning self.now) tables.old position result }
         ensures after { RecallLeaves (count_of self.now) (top_of self.now) (meaning self.now) tables.old position result tables.new }
@@ -153,6 +163,15 @@ impl Holding {
     {
         match self {
             Holding::Live(live) => numbered(order.post(live, tables, location, job)),
+            other => Answer::NotNow(other.state()),
+        }
+    }
+
+    pub(crate) fn step(&self, order: &Standing, tables: &mut Tables, position: u32) -> Answer
+        ensures answer { StepsHere order.now self.now tables.old position result tables.new }
+    {
+        match self {
+            Holding::Live(live) => numbered(order.step(live, tables, position)),
             other => Answer::NotNow(other.state()),
         }
     }
