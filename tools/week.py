@@ -46,9 +46,10 @@ for press in range(5):
 line(7, 1, 0, 0, 0, 0)                                                               # 0 a number, into slot 0
 line(7, 3, 2, 0, roles(FOREMAN), 0)                                                  # 1 a pointer to a script, into slots 2 and 3
 line(7, 4, 4, 0, roles(OWNER, HAND, FOREMAN, MASTER), roles(MASTER))                 # 2 a programme, into slot 4
+line(7, 1, 1, 0, 0, 0)                                                               # 3 a number, into slot 1
 
 line(8, READ, 2, ROW, 2, 0, 0, 0, 0)                                                 # 1 a hand reads the first dwell time
-line(8, CHANGE, 0, ROW, 3, 0, HELD, 0, 0)                                            # 2 and enters it as the count
+line(8, CHANGE, 0, ROW, 3, 3, HELD, 0, 0)                                            # 2 and enters it as the count
 line(8, READ, 4, ROW, 0, 2, 0, 0, 0)                                                 # 3 the master takes a copy of the programme
 line(8, ENABLE, 5, ROW, 1, HAND, 0, 0, 0)                                            # 4 opens the dwell times to the hands
 line(8, READ, 6, ROW, 5, 1, 0, 0, 0)                                                 # 5 asks for the partner
@@ -57,9 +58,12 @@ line(8, RUN, 8, SLOT, 3, 0, 0, 0, 0)                                            
 line(8, GO, 9, ROW, PRESS_TWO, roles(MASTER), 0, 0, 0)                               # 8 comes back
 line(8, DISABLE, 0, ROW, 0, HAND, 0, 0, 0)                                           # 9 takes the hands' role away below the programme
 line(8, CHANGE, 0, ROW, 3, 0, NUMBER, 21, 0)                                         # 10 the foreman's script enters 21 pressings
+line(8, CHANGE, 12, ROW, 3, 0, NUMBER, 15, 0)                                        # 11 a hand enters 15 pressings
+line(8, READ, 0, ROW, 3, 0, 0, 0, 0)                                                 # 12 and looks at them
 
 line(9, 0, roles(HAND), 1)
 line(9, 0, roles(MASTER), 3)
 line(9, 0, roles(FOREMAN), 10)
+line(9, 0, roles(HAND), 11)
 
 sheet.write("week.sheet")
