@@ -36,6 +36,7 @@ impl<O: Order> Step<'_, O> {
         self.tables.trees[self.job.location as usize].rows
     }
 
+    // By a path of these steps, one or more.
     fn enabled_by(&self, steps: &[PathStepRow], role: Role) -> Outcome
         requires ground { Ground (network self.now.tables.now) self.now.job }
         requires some { 0 < length steps.now }
@@ -63,6 +64,7 @@ impl<O: Order> Step<'_, O> {
         self.enabled_by(steps.in_use(), role)
     }
 
+    // By a path of these steps, one or more.
     fn disabled_by(&self, steps: &[PathStepRow], role: Role) -> Outcome
         requires ground { Ground (network self.now.tables.now) self.now.job }
         requires some { 0 < length steps.now }
