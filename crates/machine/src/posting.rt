@@ -2,28 +2,17 @@
 ghost use Rattle.std.specs.Prelude.{◌≡◌, length};
 ghost use Rattle.std.specs.List.{slice_get};
 ghost use Rattle.layout.specs.Network.{network};
-ghost use Rattle.reduction.specs.Effects.{started};
 ghost use Rattle.machine.specs.Calls.{to_post};
 ghost use Rattle.machine.specs.Hosting.{PostAnswers, PostLeaves};
 
 use super::denial::{Denial, Missing};
-use layout::{RunningRow, Slot, Tables};
+use layout::Tables;
 use order::Order;
 use rooms::Room;
 use rows::{JobRow, LocationRow};
 use rules::Live;
 use shape::{Stage, shape};
-
-fn started(location: u32, job: JobRow) -> RunningRow
-    ensures answer { result ≡ started location job }
-{
-    RunningRow {
-        location,
-        roles: job.roles,
-        command: job.command,
-        slots: [Slot::default(); 6],
-    }
-}
+use values::started;
 
 fn location_at(tables: &Tables, location: u32) -> Option<LocationRow>
     ensures answer { result ≡ slice_get (network tables.now).plan.locations location }
