@@ -2,6 +2,7 @@
 -- location after it.
 use Rattle.std.specs.Prelude.{ℕ, ◌+◌, cond, List, [], ◌∷◌, ◌++◌, map, replicate, ◌==◌, slice_index_or}
 use Rattle.rows.specs.declared.row.JobRow.{JobRow}
+use Rattle.rows.specs.declared.row.TreeLine.{TreeLine}
 use Rattle.layout.specs.declared.memory.RunningRow.{RunningRow}
 use Rattle.layout.specs.Network.{TreeLines, Plan, Network}
 use Rattle.layout.specs.Zeros.{job0, slot0}
@@ -35,14 +36,13 @@ abbrev pub started : ℕ → JobRow → RunningRow
 started location j = record { location = location; roles = j.roles; command = j.command; slots = replicate 6 slot0 }
 
 -- the job that a script on this line starts; any other content starts none
-abbrev pub script_at : Plan → ℕ → TreeLines → ℕ → List RunningRow
-script_at p location tree row =
-    cond ((line tree row).content == 2) (started location (slice_index_or p.jobs (line tree row).first job0) ∷ []) []
+abbrev pub script_on : Plan → ℕ → TreeLine → List RunningRow
+script_on p location x = cond (x.content == 2) (started location (slice_index_or p.jobs x.first job0) ∷ []) []
 
 -- the jobs that the scripts on these lines start, in this order
 abbrev pub scripts : Plan → ℕ → TreeLines → List ℕ → List RunningRow
 scripts p location tree [] = []
-scripts p location tree (row ∷ rows) = script_at p location tree row ++ scripts p location tree rows
+scripts p location tree (row ∷ rows) = script_on p location (line tree row) ++ scripts p location tree rows
 
 -- ---- reading
 

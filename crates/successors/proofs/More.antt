@@ -10,18 +10,19 @@ use Rattle.rooms.specs.declared.scratch.Scratch.{Scratch}
 use Rattle.rooms.specs.Rooms.{Aftermath, scratch_of}
 use Rattle.rooms.specs.Joining.{joined_by, shelved}
 use Rattle.edges.specs.Rows.{flagged_rows}
-use Rattle.reduction.specs.Effects.{script_at, scripts, copies, reader, readers}
+use Rattle.obeying.specs.Rules.{line}
+use Rattle.reduction.specs.Effects.{script_on, scripts, copies, reader, readers}
 use Rattle.successors.specs.Successors.{with_jobs, with_copies, FlagsOf}
 use Rattle.successors.proofs.FlaggedSoFar.{so_far, one_more, none_more, all_flagged}
 
 -- ---- lists
 
 scripts_push : (p : Plan) (location : ℕ) (tree : TreeLines) (rows : List ℕ) (row : ℕ)
-    → scripts p location tree (rows ++ (row ∷ [])) ≡ scripts p location tree rows ++ script_at p location tree row
-scripts_push p location tree [] row = append-nil (script_at p location tree row)
+    → scripts p location tree (rows ++ (row ∷ [])) ≡ scripts p location tree rows ++ script_on p location (line tree row)
+scripts_push p location tree [] row = append-nil (script_on p location (line tree row))
 scripts_push p location tree (r ∷ rows) row =
-    ap (λ js. script_at p location tree r ++ js) (scripts_push p location tree rows row)
-    ∙ sym (append_assoc (script_at p location tree r) (scripts p location tree rows) (script_at p location tree row))
+    ap (λ js. script_on p location (line tree r) ++ js) (scripts_push p location tree rows row)
+    ∙ sym (append_assoc (script_on p location (line tree r)) (scripts p location tree rows) (script_on p location (line tree row)))
 
 copies_push : (m : Pattern) (tree : TreeLines) (rows : List ℕ) (row : ℕ) → copies m tree (rows ++ (row ∷ [])) ≡ copies m tree rows ++ copies m tree (row ∷ [])
 copies_push (pattern.Number slot) tree rows row = refl
@@ -114,9 +115,9 @@ module _ (p : Plan) (location : ℕ) (tree : TreeLines) (flags : List Bool) (old
   none_started a e = none_joined old a e
 
   pub one_started : (i : ℕ) (now after_it : Scratch) → i < length flags → get_or flags i false ≡ true → Started i now
-      → ((a : Aftermath) → now ≡ scratch_of a → after_it ≡ scratch_of (with_jobs a (script_at p location tree i))) → Started (i + 1) after_it
+      → ((a : Aftermath) → now ≡ scratch_of a → after_it ≡ scratch_of (with_jobs a (script_on p location (line tree i)))) → Started (i + 1) after_it
   one_started i now after_it h e so_far_is after a s =
-      jobs_twice after_it a (scripts p location tree (so_far flags i)) (script_at p location tree i) (scripts p location tree (so_far flags (i + 1)))
+      jobs_twice after_it a (scripts p location tree (so_far flags i)) (script_on p location (line tree i)) (scripts p location tree (so_far flags (i + 1)))
       (ap (scripts p location tree) (one_more flags i h e) ∙ scripts_push p location tree (so_far flags i) i)
       (after (with_jobs a (scripts p location tree (so_far flags i))) (so_far_is a s))
 

@@ -4,7 +4,7 @@ ghost use Rattle.layout.specs.Network.{network};
 ghost use Rattle.layout.specs.Zeros.{job0};
 ghost use Rattle.rooms.specs.Rooms.{Aftermath, scratch_of};
 ghost use Rattle.edges.specs.Rows.{flagged_rows};
-ghost use Rattle.reduction.specs.Effects.{script_at, scripts};
+ghost use Rattle.reduction.specs.Effects.{script_on, scripts};
 ghost use Rattle.successors.specs.Successors.{with_jobs, FlagsOf};
 
 use layout::Tables;
@@ -25,20 +25,13 @@ fn job_at(tables: &Tables, job: u32) -> JobRow
         .unwrap_or_default()
 }
 
-// The job of the script on the line of this row starts, if a script lies there.
+// The job of the script on this line starts, if a script lies there.
 #[tactic(auto, unfolding(crate::specs::Successors::with_jobs), using(crate::proofs::More::none_joined))]
-fn start_script(
-    tables: &Tables,
-    location: u32,
-    tree: &[TreeLine],
-    row: usize,
-    scratch: &mut Scratch,
-)
-    requires inside { row < length tree.now }
-    ensures after { (a : Aftermath) → scratch.old ≡ scratch_of a → scratch.new ≡ scratch_of (with_jobs a (script_at (network tables.now).plan location tree.now row)) }
+fn start_script(tables: &Tables, location: u32, line: TreeLine, scratch: &mut Scratch)
+    ensures after { (a : Aftermath) → scratch.old ≡ scratch_of a → scratch.new ≡ scratch_of (with_jobs a (script_on (network tables.now).plan location line)) }
 {
-    if let Ok(ContentKind::Script) = ContentKind::try_from(tree[row].content) {
-        scratch.join(started(location, job_at(tables, tree[row].first)));
+    if let Ok(ContentKind::Script) = ContentKind::try_from(line.content) {
+        scratch.join(started(location, job_at(tables, line.first)));
     }
 }
 
@@ -54,9 +47,9 @@ pub fn start_scripts(
     requires flags { FlagsOf tree.now flags.now }
     ensures after { (a : Aftermath) → scratch.old ≡ scratch_of a → scratch.new ≡ scratch_of (with_jobs a (scripts (network tables.now).plan location tree.now (flagged_rows flags.now))) }
 {
-    for row in 0..tree.len() {
+    for (row, line) in tree.iter().enumerate() {
         if flags[row] {
-            start_script(tables, location, tree, row, scratch);
+            start_script(tables, location, *line, scratch);
         }
     }
 }

@@ -20,7 +20,7 @@ use Rattle.standing.specs.declared.sizes.Sizes.{Sizes}
 use Rattle.standing.specs.Words.{SlotStands}
 use Rattle.standing.specs.Words.SlotStands.{none}
 use Rattle.edges.specs.Rows.{flagged_rows, flagged_count}
-use Rattle.reduction.specs.Effects.{Effect, goes_on, started, script_at, scripts}
+use Rattle.reduction.specs.Effects.{Effect, goes_on, started, script_on, scripts}
 use Rattle.reduction.specs.Soundness.{JobSound, NetworkSound, EffectSound, with_shelf}
 use Rattle.reduction.specs.Steps.{next_of, Runs}
 use Rattle.reduction.specs.Values.{tree_of, path_of}
@@ -64,7 +64,7 @@ module _ (below : ℕ → ℕ → Bool) (s : Sizes) (n : Network) (w : NetworkSo
   scripts_sound : (rows : List ℕ) → Each (λ i. i < length (tree_of n r)) 0 rows → Each Started no_running (scripts n.plan r.location (tree_of n r) rows)
   scripts_sound [] w' = each_none Started no_running
   scripts_sound (row ∷ rows) inside =
-      each_append Started no_running (script_at n.plan r.location (tree_of n r) row) (scripts n.plan r.location (tree_of n r) rows)
+      each_append Started no_running (script_on n.plan r.location (line (tree_of n r) row)) (scripts n.plan r.location (tree_of n r) rows)
       (cond_both (eqb (line (tree_of n r) row).content 2) (started r.location (get_or n.plan.jobs (line (tree_of n r) row).first job0) ∷ []) [] (Each Started no_running)
       (λ e.
       let o = (tree_obeys below s n w r.location).scripts row (inside 0 (omega arith)) (eqb-true (line (tree_of n r) row).content 2 e) in

@@ -54,26 +54,27 @@ fn under_matches<O: Order>(
     TreePattern { policy, top, all }.matches(copy.in_use())
 }
 
-// Whether the pattern matches the edge of this row. A crate above asks it of trees of a location.
-pub fn edge_matches<O: Order>(
+// Whether the pattern matches the edge of this row, which is this one.
+fn line_matches<O: Order>(
     order: &O,
     tables: &Tables,
     pattern: Pattern,
     tree: &[TreeLine],
     row: usize,
+    edge: TreeLine,
 ) -> bool
     requires inside { row < length tree.now }
     requires few { length tree.now ≤ 128 }
+    requires own { edge ≡ line tree.now row }
     ensures says { Decides result (EdgeMatches (O.below order.now) (network tables.now).plan pattern tree.now row) }
 {
-    let line = tree[row];
-    match (pattern, ContentKind::try_from(line.content)) {
+    match (pattern, ContentKind::try_from(edge.content)) {
         (Pattern::Number { .. }, Ok(ContentKind::Number)) => true,
         (Pattern::Script { policy, .. }, Ok(ContentKind::Script)) => {
-            has_job(tables, policy, line.first)
+            has_job(tables, policy, edge.first)
         }
         (Pattern::Pointer { policy, last, .. }, Ok(ContentKind::Pointer)) => {
-            location_of(tables, policy, line.second) && path_ends(tables, line.first, last)
+            location_of(tables, policy, edge.second) && path_ends(tables, edge.first, last)
         }
         (
             Pattern::Tree {
@@ -88,8 +89,23 @@ pub fn edge_matches<O: Order>(
     }
 }
 
+// Whether the pattern matches the edge of this row. A crate above asks it of trees of a location.
+pub fn edge_matches<O: Order>(
+    order: &O,
+    tables: &Tables,
+    pattern: Pattern,
+    tree: &[TreeLine],
+    row: usize,
+) -> bool
+    requires inside { row < length tree.now }
+    requires few { length tree.now ≤ 128 }
+    ensures says { Decides result (EdgeMatches (O.below order.now) (network tables.now).plan pattern tree.now row) }
+{
+    line_matches(order, tables, pattern, tree, row, tree[row])
+}
+
 impl<O: Order> Path<'_, O> {
-    // Whether the edge of this row is found, and the pattern matches it.
+    // Whether the edge of this row, which is this one, is found, and the pattern matches it.
     fn selects(
         &self,
         tables: &Tables,
@@ -97,12 +113,14 @@ impl<O: Order> Path<'_, O> {
         tree: &[TreeLine],
         found: bool,
         row: usize,
+        edge: TreeLine,
     ) -> bool
         requires inside { row < length tree.now }
         requires few { length tree.now ≤ 128 }
+        requires own { edge ≡ line tree.now row }
         ensures says { Decides result ((found ≡ true) × EdgeMatches (O.below self.now.order.now) (network tables.now).plan pattern tree.now row) }
     {
-        found && edge_matches(self.order, tables, pattern, tree, row)
+        found && line_matches(self.order, tables, pattern, tree, row, edge)
     }
 
     // Flags for the lines of the tree, set for the edges that the path finds and the pattern matches. A crate above asks about trees
@@ -113,8 +131,8 @@ impl<O: Order> Path<'_, O> {
         ensures says { Selected (O.below self.now.order.now) self.now.steps.now (network tables.now).plan pattern tree.now result }
     {
         let mut flags = self.find(tree);
-        for row in 0..tree.len() {
-            flags[row] = self.selects(tables, pattern, tree, flags[row], row);
+        for (row, line) in tree.iter().enumerate() {
+            flags[row] = self.selects(tables, pattern, tree, flags[row], row, *line);
         }
         flags
     }
