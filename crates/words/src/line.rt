@@ -18,23 +18,12 @@ pub enum Sheet {
 #[derive(Clone, Copy, Debug, PartialEq, Eq)]
 pub enum Call {
     // The job of this row is to start at the location.
-    Post {
-        location: u32,
-        job: u32,
-    },
+    Post { location: u32, job: u32 },
     // The running job at this position is to make its next step, or to be taken out.
-    Step {
-        position: u32,
-    },
-    Recall {
-        position: u32,
-    },
+    Step { position: u32 },
+    Recall { position: u32 },
     // This edge of the location is to be shown, if the roles open it.
-    Show {
-        location: u32,
-        row: u32,
-        roles: u64,
-    },
+    Show { location: u32, row: u32, roles: u64 },
     Audit,
 }
 
