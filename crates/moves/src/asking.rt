@@ -16,6 +16,18 @@ pub(crate) enum Call {
     Audit,
 }
 
+impl Call {
+    pub(crate) fn name(self) -> &'static str {
+        match self {
+            Call::Post => "post",
+            Call::Step => "step",
+            Call::Recall => "recall",
+            Call::Show => "show",
+            Call::Audit => "audit",
+        }
+    }
+}
+
 fn numbered(rt: &HostRuntime, answer: Result<usize, Denial>) -> io::Result<String> {
     match answer {
         Ok(number) => Ok(format!(in rt.alloc(); "ok {number}")?),

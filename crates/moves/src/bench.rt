@@ -7,6 +7,7 @@ use super::text::{Case, case_of, numbers_of};
 use drawn::Drawn;
 use guarantee::admit;
 use layout::Tables;
+use machine::audit;
 use rules::Live;
 use std::io;
 use tables::{Blank, Draft, load};
@@ -53,40 +54,52 @@ impl Bench<'_> {
         Ok(before && write(self.rt, self.wanted, case.left)?)
     }
 
-    fn call(&mut self, live: &Live, call: Call, start: &str, case: Case<'_>) -> io::Result<String> {
-        let written = write(self.rt, self.tables, start)?
-            && write(self.rt, self.tables, case.host)?;
-        if !written {
-            return Ok(format!(in self.rt.alloc(); "not written")?);
-        }
-        let arguments = numbers_of(self.rt, case.arguments)?;
-        answer(
+    // An audit that found nothing before the call finds nothing behind it.
+    fn call(&mut self, live: &Live, call: Call, arguments: &str) -> io::Result<String> {
+        let sound = audit(live, self.tables, self.order).is_none();
+        let arguments = numbers_of(self.rt, arguments)?;
+        let answer = answer(
             self.rt,
             live,
             self.tables,
             self.order,
             call,
             arguments.as_slice(),
-        )
+        )?;
+        if sound && audit(live, self.tables, self.order).is_some() {
+            return Ok(format!(in self.rt.alloc(); "{answer}, and a rule is broken")?);
+        }
+        Ok(answer)
+    }
+
+    // What is told where something did not come out so.
+    pub(crate) fn expect(&mut self, holds: bool, told: &str) -> io::Result<()> {
+        if holds {
+            return Ok(());
+        }
+        self.as_told = false;
+        println!(self.rt; "  not as told: {told}")
     }
 
     fn try_case(&mut self, live: &Live, call: Call, start: &str, case: Case<'_>) -> io::Result<()> {
         let wanted = self.want(start, case)?;
-        let answer = self.call(live, call, start, case)?;
+        let written = write(self.rt, self.tables, start)?
+            && write(self.rt, self.tables, case.host)?;
+        let answer = self.call(live, call, case.arguments)?;
+        let name = call.name();
         let what = case.what;
-        println!(self.rt; "{what} -> {answer}")?;
-        if wanted && answer.as_str() == case.answer && *self.tables == *self.wanted {
-            return Ok(());
-        }
-        self.as_told = false;
-        let told = case.answer;
-        println!(self.rt; "  not as told: {told}")
+        println!(self.rt; "{name}: {what} -> {answer}")?;
+        let same = answer.as_str() == case.answer && *self.tables == *self.wanted;
+        self.expect(written && wanted && same, case.answer)
+    }
+
+    pub(crate) fn admitted(&mut self) -> Option<Live> {
+        admitted(self.order, self.tables)
     }
 
     fn judge(&mut self, call: Call, start: &str, case: Case<'_>) -> io::Result<()> {
-        let Some(live) = admitted(self.order, self.tables) else {
-            self.as_told = false;
-            return println!(self.rt; "  not admitted");
+        let Some(live) = self.admitted() else {
+            return self.expect(false, "an admitted house");
         };
         let judged = self.try_case(&live, call, start, case);
         rules::close(live, self.tables).spend();

@@ -13,6 +13,7 @@ mod crowding;
 mod hosts;
 mod house;
 mod steps;
+mod story;
 mod text;
 
 // Only the pair (1, 2) is drawn.
@@ -31,5 +32,6 @@ fn main(rt: HostRuntime) -> io::Result<()> {
     calls::run(&mut bench)?;
     steps::run(&mut bench)?;
     crowding::run(&mut bench)?;
+    story::run(&mut bench)?;
     bench.end()
 }
