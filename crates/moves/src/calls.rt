@@ -81,7 +81,12 @@ const AUDITS: &str = "\
     {0} over {0,1}; ; 7: table 5 row 1: breaks rule 3; 5 0.2: 1\n\
     a script of policy 1; ; 7: table 5 row 7: breaks rule 4; 5 7.4: 3\n\
     a job in roles {3}; ; 7: table 9 row 0: breaks rule 5; 9 0.1: 8\n\
+    a go by a slot with a number; ; 7: table 8 row 12: breaks rule 6; 8 12.3: 0\n\
     a path {0,2} for roles {1}; ; 7: table 8 row 11: breaks rule 7; 4 3.2: 5\n\
+    a tree pattern's second set {0,2} for roles {1}; ; 7: table 8 row 9: breaks rule 8; 7 3.4: 5\n\
+    a template's line {0,3}; ; 7: table 8 row 15: breaks rule 9; 6 0.3: 9\n\
+    a grant whose holders are {2}; ; 7: table 8 row 17: breaks rule 10; 2 0.2: 4\n\
+    a grant to enable role 3 by {1}; ; 7: table 8 row 17: breaks rule 11; 2 0.3: 3 | 8 17.4: 3\n\
     a running job in roles {3}; ; 7: table 0 row 1: breaks rule 5; 0 count: 2 | 0 0: 0 2 5 | 0 1: 0 8 5\n\
     a running job at a go by an empty slot; ; 7: table 0 row 0: breaks rule 6; 0 count: 1 | 0 0: 0 2 13\n\
     a script in a slot; ; nothing; 0 count: 1 | 0 0: 0 2 5 0 0 2 0\n\

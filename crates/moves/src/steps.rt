@@ -8,6 +8,8 @@ const WAITED_FOR: &str = "0 count: 2 | 0 0: 0 2 1 | 0 1: 0 2 5";
 
 const GRANTED: &str = "\
     fork; 0; ok 0; 0 0.2: 1; 0 count: 3 | 0 0.2: 5 | 0 1.2: 2 | 0 2: 0 2 3\n\
+    both sides of a fork keep the slots; 0; ok 0; 0 0: 0 2 1 1 7; 0 count: 3 | 0 0: 0 2 5 0 0 | 0 1: 0 2 2 1 7 | 0 2: 0 2 3 1 7\n\
+    the second of three; 1; ok 0; 0 count: 3 | 0 1: 0 2 1 | 0 2: 2 2 9; 0 count: 4 | 0 1: 2 2 9 | 0 2: 0 2 2 | 0 3: 0 2 3\n\
     fork into nothing; 0; ok 0; 0 0.2: 7; 0 count: 1 | 0 0.2: 5 | 0 1: 0 0 0\n\
     go; 0; ok 0; 0 0.2: 4; 0 0.2: 5 | 0 1: 1 8 5\n\
     run finds three, two of them scripts; 0; ok 3; 0 0.2: 6; 0 count: 4 | 0 0.2: 5 | 0 1.2: 7 | 0 2: 0 2 1 | 0 3: 0 2 4\n\
@@ -15,6 +17,8 @@ const GRANTED: &str = "\
     a script starts with its job's roles and empty slots; 0; ok 3; 0 0: 0 6 6 1 7 | 9 1.1: 4; \
     0 count: 4 | 0 0: 0 2 5 0 0 | 0 1: 0 6 7 1 7 | 0 2: 0 2 1 | 0 3: 0 4 4\n\
     read two numbers; 0; ok 2; 0 0.2: 8; 0 count: 3 | 0 0.2: 5 | 0 1: 0 2 9 1 7 | 0 2: 0 2 9 1 8\n\
+    read over what slot 0 held; 0; ok 2; 0 0: 0 2 8 1 99; 0 count: 3 | 0 0: 0 2 5 0 0 | 0 1: 0 2 9 1 7 | 0 2: 0 2 9 1 8\n\
+    read at location 2, which has no edge; 0; ok 0; 0 0: 2 2 8; 0 count: 1 | 0 0: 0 2 5 | 0 1: 0 0 0\n\
     read one number among three edges; 0; ok 3; 0 0.2: 23; 0 0.2: 5 | 0 1: 0 2 24 1 5\n\
     read two scripts among three edges; 0; ok 3; 0 0.2: 21; 0 count: 3 | 0 0.2: 5 | 0 1: 0 2 22 0 0 2 0 | 0 2: 0 2 22 0 0 2 1\n\
     read a pointer; 0; ok 1; 0 0.2: 12; 0 0.2: 5 | 0 1: 0 2 13 0 0 0 0 3 2 3 1\n\
@@ -26,6 +30,7 @@ const GRANTED: &str = "\
     0 0.2: 5 | 0 1: 0 2 11 0 0 0 0 0 0 0 0 4 0 | 255 count: 1 0\n\
     read two trees with nothing behind; 0; ok 2; 0 0.2: 15; 0 count: 1 | 0 0.2: 5 | 0 1: 0 0 0\n\
     change two numbers to 42; 0; ok 2; 0 0.2: 25; 0 count: 1 | 0 0.2: 5 | 0 1: 0 0 0 | 5 4 2.4: 42\n\
+    change a number at location 2; 0; ok 1; 0 0: 2 2 25 | 5 count.2: 1 | 5 12: 1 2 3 1 7 0; 0 count: 1 | 0 0: 0 2 5 | 0 1: 0 0 0 | 5 12.4: 42\n\
     change three edges, one of them a number; 0; ok 3; 0 0.2: 25 | 8 24.3: 2; 0 count: 1 | 0 0.2: 5 | 0 1: 0 0 0 | 5 8.4: 42\n\
     change the last number to a template; 0; ok 1; 0 0.2: 16 | 4 1.1: 8 | 5 10: 1 8 3 1 5 0; \
     0 0.2: 5 | 0 1.2: 17 | 5 count: 13 | 5 10: 1 8 3 0 0 0 | 5 11: 2 6 3 0 0 0 | 5 12: 3 7 3 1 5 0\n\
