@@ -1,18 +1,19 @@
 -- What holds at the start, and after every history of calls, of a network that was admitted.
-use Rattle.std.specs.Prelude.{◌≡◌, ℕ, ◌<◌, ◌⊎◌, Bool, List, length, None, Some, Err, Result}
+use Rattle.std.specs.Prelude.{◌≡◌, ℕ, ◌<◌, ◌⊎◌, Bool, List, length, None, Some, Err, Option, Result}
 use Rattle.layout.specs.declared.memory.Tables.{Tables}
 use Rattle.layout.specs.Network.{network}
-use Rattle.rules.specs.Admission.{Sound, live_fault}
+use Rattle.rules.specs.Admission.{Sound}
 use Rattle.rooms.specs.declared.room.Room.{Room}
 use Rattle.rooms.specs.Rooms.{lacking}
 use Rattle.reduction.specs.Values.{job_at, tree_of}
 use Rattle.reduction.specs.Effects.{Effect, aftermath}
 use Rattle.reduction.specs.Access.{Touches, OpenTo}
+use Rattle.machine.specs.declared.auditing.FaultRecord.{FaultRecord}
 use Rattle.machine.specs.declared.denial.Missing.TheVariants.{Position}
 use Rattle.machine.specs.declared.denial.Denial.{Denial}
 use Rattle.machine.specs.declared.denial.Denial.TheVariants as denial
 use Rattle.machine.specs.Stepping.{Outcome}
-use Rattle.machine.specs.Hosting.{StepGranted, Stepped}
+use Rattle.machine.specs.Hosting.{StepGranted, Stepped, Audited}
 use Rattle.guarantee.specs.Histories.{Call, History}
 
 -- under an order with so many roles, this top and this relation
@@ -46,7 +47,7 @@ module _ (count top : ℕ) (below : ℕ → ℕ → Bool) where
       -- the tables have shape, and the network keeps every typing rule
       pub sound : Sound count top below t
       -- an audit of it answers nothing
-      pub quiet : live_fault count top below t ≡ None
+      pub quiet : (answer : Option FaultRecord) → Audited count top below t answer → answer ≡ None
       pub access : Access
       pub denials : (position : ℕ) (answer : Result ℕ Denial) (after : Tables) → Stepped count top below t position answer after → Denials position answer
 

@@ -2,7 +2,7 @@
 use Rattle.std.specs.Prelude.{◌≡◌, ℕ, Bool, List, [], ◌∷◌, Option, Result}
 use Rattle.rows.specs.declared.row.TreeLine.{TreeLine}
 use Rattle.layout.specs.declared.memory.Tables.{Tables}
-use Rattle.rules.specs.declared.fault.Fault.{Fault}
+use Rattle.machine.specs.declared.auditing.FaultRecord.{FaultRecord}
 use Rattle.machine.specs.declared.denial.Denial.{Denial}
 use Rattle.machine.specs.Hosting.{PostAnswers, PostLeaves, RecallAnswers, RecallLeaves, Stepped, Shown, Audited}
 
@@ -22,7 +22,7 @@ module _ (count top : ℕ) (below : ℕ → ℕ → Bool) where
   Called t (step position) u = (answer : Result ℕ Denial) × Stepped count top below t position answer u
   Called t (recall position) u = (answer : Result (Unit {0}) Denial) × RecallAnswers count top below t position answer × RecallLeaves count top below t position answer u
   Called t (show location row roles) u = (answer : Option TreeLine) × Shown count top below t location row roles answer × (u ≡ t)
-  Called t audit u = (answer : Option Fault) × Audited count top below t answer × (u ≡ t)
+  Called t audit u = (answer : Option FaultRecord) × Audited count top below t answer × (u ≡ t)
 
   abbrev pub History : Tables → List Call → Tables → Type 0
   History t [] after = after ≡ t

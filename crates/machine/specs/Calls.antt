@@ -9,9 +9,12 @@ use Rattle.layout.specs.declared.memory.RunningRow.{RunningRow}
 use Rattle.layout.specs.Network.{Network}
 use Rattle.layout.specs.Zeros.{job0}
 use Rattle.shape.specs.declared.place.Place.{Place}
+use Rattle.rules.specs.declared.fault.Fault.{Fault}
+use Rattle.rules.specs.declared.fault.Fault.TheVariants as fault
 use Rattle.rooms.specs.declared.room.Room.TheVariants.{RunningJobs}
 use Rattle.rooms.specs.Leaving.{without}
 use Rattle.reduction.specs.Effects.{started}
+use Rattle.machine.specs.declared.auditing.FaultRecord.{FaultRecord}
 use Rattle.machine.specs.declared.denial.Missing.TheVariants.{Position, Location, Job}
 use Rattle.machine.specs.declared.denial.Denial.{Denial}
 use Rattle.machine.specs.declared.denial.Denial.TheVariants as denial
@@ -69,3 +72,10 @@ shown below n location row roles = if_open below roles (slice_get (slice_index_o
 abbrev pub shown_in : Option Place → Option TreeLine → Option TreeLine
 shown_in None line = line
 shown_in (Some place) line = None
+
+-- ---- audit
+
+-- a fault as a row of a table and the rule that it breaks; shape is none of the rules
+abbrev pub record_of : Fault → FaultRecord
+record_of (fault.Shape place) = record { table = place.table; row = place.row; rule = None }
+record_of (fault.Rule breach) = record { table = breach.table; row = breach.row; rule = Some breach.rule }

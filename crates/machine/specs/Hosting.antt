@@ -1,19 +1,20 @@
 -- What each call on a live network answers, and what it leaves in the host's tables: they may hold anything, and tables out of shape
 -- are told before all else. A call that is refused leaves them as they were; show and audit only read them.
 use Rattle.std.specs.Prelude.{◌≡◌, ℕ, Bool, None, Some, Ok, Err, Option, Result, MatchResult}
+use Rattle.std.specs.Option.{option_map}
 use Rattle.layout.specs.declared.memory.Tables.{Tables}
 use Rattle.layout.specs.Network.{Network, network, Holds}
 use Rattle.rows.specs.declared.row.TreeLine.{TreeLine}
 use Rattle.shape.specs.declared.place.Place.{Place}
 use Rattle.shape.specs.declared.place.Stage.TheVariants as stage
 use Rattle.shape.specs.Place.{first_place}
-use Rattle.rules.specs.declared.fault.Fault.{Fault}
 use Rattle.rules.specs.Admission.{live_fault}
 use Rattle.rooms.specs.declared.room.Room.{Room}
 use Rattle.rooms.specs.Rooms.{Aftermath, lacking, left_in}
+use Rattle.machine.specs.declared.auditing.FaultRecord.{FaultRecord}
 use Rattle.machine.specs.declared.denial.Denial.{Denial}
 use Rattle.machine.specs.declared.denial.Denial.TheVariants as denial
-use Rattle.machine.specs.Calls.{in_shape, posted, after_post, recalled, after_recall, shown, shown_in}
+use Rattle.machine.specs.Calls.{in_shape, posted, after_post, recalled, after_recall, shown, shown_in, record_of}
 use Rattle.machine.specs.Stepping.{Granted, Denied}
 
 -- what a step leaves at the location is written where there is room for it; else the first room that is too small is told
@@ -56,5 +57,5 @@ module _ (count top : ℕ) (below : ℕ → ℕ → Bool) (before : Tables) wher
   abbrev pub Shown : ℕ → ℕ → ℕ → Option TreeLine → Type 0
   Shown location row roles answer = answer ≡ shown_in out_of_shape (shown below (network before) location row roles)
 
-  abbrev pub Audited : Option Fault → Type 0
-  Audited answer = answer ≡ live_fault count top below before
+  abbrev pub Audited : Option FaultRecord → Type 0
+  Audited answer = answer ≡ option_map record_of (live_fault count top below before)

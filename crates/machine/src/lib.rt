@@ -8,7 +8,7 @@ mod posting;
 mod recalling;
 mod showing;
 
-pub use auditing::audit;
+pub use auditing::{FaultRecord, audit};
 pub use denial::{Denial, Missing};
 pub use moving::step;
 pub use posting::post;

@@ -2,9 +2,9 @@
 use super::text::narrow;
 use drawn::Drawn;
 use layout::Tables;
-use machine::{Denial, audit, post, recall, show, step};
+use machine::{Denial, FaultRecord, audit, post, recall, show, step};
 use rows::TreeLine;
-use rules::{Fault, Live};
+use rules::Live;
 use std::io;
 
 #[derive(Clone, Copy, Debug, PartialEq, Eq)]
@@ -53,11 +53,13 @@ fn edge(rt: &HostRuntime, line: Option<TreeLine>) -> io::Result<String> {
     Ok(format!(in rt.alloc(); "{depth} {label} {set} {content} {first} {second}")?)
 }
 
-fn found(rt: &HostRuntime, fault: Option<Fault>) -> io::Result<String> {
+// A breach of shape is told as rule 0.
+fn found(rt: &HostRuntime, fault: Option<FaultRecord>) -> io::Result<String> {
     match fault {
-        Some(fault) => {
-            let number = fault.number();
-            Ok(format!(in rt.alloc(); "{number}: {fault}")?)
+        Some(FaultRecord { table, row, rule }) => {
+            let table = u32::from(table);
+            let rule = rule.map_or(0, |rule| rule.number());
+            Ok(format!(in rt.alloc(); "table {table} row {row} rule {rule}")?)
         }
         None => Ok(format!(in rt.alloc(); "nothing")?),
     }

@@ -4,9 +4,9 @@ use Rattle.rows.specs.declared.row.TreeLine.{TreeLine}
 use Rattle.layout.specs.declared.memory.Tables.{Tables}
 use Rattle.layout.specs.Kinds.{number_of as table_number}
 use Rattle.breaches.specs.Rules.{number_of as rule_number}
-use Rattle.rules.specs.declared.fault.Fault.{Fault}
-use Rattle.rules.specs.declared.fault.Fault.TheVariants.{Shape as NoShape, Rule}
+use Rattle.breaches.specs.declared.breach.Rule.{Rule}
 use Rattle.rooms.specs.Rooms.{number_of as room_number}
+use Rattle.machine.specs.declared.auditing.FaultRecord.{FaultRecord}
 use Rattle.machine.specs.declared.denial.Missing.TheVariants as missing
 use Rattle.machine.specs.declared.denial.Denial.{Denial}
 use Rattle.machine.specs.declared.denial.Denial.TheVariants as denial
@@ -45,10 +45,13 @@ edge_answer (Some x) = answer.Edge x
 edge_answer None = answer.Nothing
 
 -- a breach of shape is told as rule 0
-abbrev pub audit_answer : Option Fault → Answer
+abbrev pub told_rule : Option Rule → ℕ
+told_rule None = 0
+told_rule (Some rule) = rule_number rule
+
+abbrev pub audit_answer : Option FaultRecord → Answer
 audit_answer None = answer.Nothing
-audit_answer (Some (NoShape place)) = answer.Fault (table_number place.table) place.row 0
-audit_answer (Some (Rule breach)) = answer.Fault (table_number breach.table) breach.row (rule_number breach.rule)
+audit_answer (Some fault) = answer.Fault (table_number fault.table) fault.row (told_rule fault.rule)
 
 -- ---- the calls: each works on a live network, under the order in force
 
@@ -81,4 +84,4 @@ ShowsHere order (holding.Live l) t location row roles told =
 abbrev pub AuditsHere : Standing → Holding → Tables → Answer → Type 0
 AuditsHere order (holding.Blank b) t told = told ≡ answer.NotNow state.Blank
 AuditsHere order (holding.Draft d) t told = told ≡ answer.NotNow state.Draft
-AuditsHere order (holding.Live l) t told = (r : Option Fault) × Audited (count_of order) (top_of order) (meaning order) t r × (told ≡ audit_answer r)
+AuditsHere order (holding.Live l) t told = (r : Option FaultRecord) × Audited (count_of order) (top_of order) (meaning order) t r × (told ≡ audit_answer r)

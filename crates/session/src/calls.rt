@@ -2,16 +2,17 @@
 ghost use Rattle.std.specs.Prelude.{◌≡◌};
 ghost use Rattle.machine.specs.Hosting.{PostAnswers, PostLeaves, RecallAnswers, RecallLeaves, Stepped, Shown, Audited};
 ghost use Rattle.session.specs.Orders.{meaning, count_of, top_of};
-ghost use Rattle.session.specs.Calls.{denial_answer, number_answer, done_answer, edge_answer, audit_answer, PostsHere, StepsHere, RecallsHere, ShowsHere, AuditsHere};
+ghost use Rattle.session.specs.Calls.{denial_answer, number_answer, done_answer, edge_answer, told_rule, audit_answer, PostsHere, StepsHere, RecallsHere, ShowsHere, AuditsHere};
 
 use super::between::Standing;
 use super::holding::Holding;
 use answer::Answer;
+use breaches::Rule;
 use layout::Tables;
-use machine::{Denial, Missing};
+use machine::{Denial, FaultRecord, Missing};
 use order::RoleSet;
 use rows::TreeLine;
-use rules::{Fault, Live};
+use rules::Live;
 
 fn denied(denial: Denial) -> Answer
     ensures answer { result ≡ denial_answer denial }
@@ -68,21 +69,26 @@ fn edge(answer: Option<TreeLine>) -> Answer
     }
 }
 
-fn found(answer: Option<Fault>) -> Answer
+// A breach of shape is told as rule 0.
+fn told_rule(rule: Option<Rule>) -> u32
+    ensures answer { result ≡ told_rule rule }
+{
+    match rule {
+        Some(rule) => rule.number(),
+        None => 0,
+    }
+}
+
+fn found(answer: Option<FaultRecord>) -> Answer
     ensures answer { result ≡ audit_answer answer }
 {
     match answer {
+        Some(fault) => Answer::Fault {
+            table: u32::from(fault.table),
+            row: fault.row,
+            rule: told_rule(fault.rule),
+        },
         None => Answer::Nothing,
-        Some(Fault::Shape(place)) => Answer::Fault {
-            table: u32::from(place.table),
-            row: place.row,
-            rule: 0,
-        },
-        Some(Fault::Rule(breach)) => Answer::Fault {
-            table: u32::from(breach.table),
-            row: breach.row,
-            rule: breach.rule.number(),
-        },
     }
 }
 
@@ -141,7 +147,7 @@ impl Standing {
         }
     }
 
-    fn audit(&self, live: &Live, tables: &Tables) -> Option<Fault>
+    fn audit(&self, live: &Live, tables: &Tables) -> Option<FaultRecord>
         ensures answer { Audited (count_of self.now) (top_of self.now) (meaning self.now) tables.now result }
     {
         match self {
