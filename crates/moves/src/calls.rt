@@ -76,24 +76,24 @@ const AUDITS: &str = "\
     the house; ; nothing\n\
     a job runs; ; nothing; 0 count: 1 | 0 0: 0 2 8\n\
     64 jobs run; ; nothing; 0 count: 64 | 0 0 64: 0 2 8\n\
-    a grant to disable the top; ; 7: table 2 row 1: breaks rule 1; 2 1.3: 0\n\
-    an edge {0,3}; ; 7: table 5 row 1: breaks rule 2; 5 1.2: 9\n\
-    {0} over {0,1}; ; 7: table 5 row 1: breaks rule 3; 5 0.2: 1\n\
-    a script of policy 1; ; 7: table 5 row 7: breaks rule 4; 5 7.4: 3\n\
-    a job in roles {3}; ; 7: table 9 row 0: breaks rule 5; 9 0.1: 8\n\
-    a go by a slot with a number; ; 7: table 8 row 12: breaks rule 6; 8 12.3: 0\n\
-    a path {0,2} for roles {1}; ; 7: table 8 row 11: breaks rule 7; 4 3.2: 5\n\
-    a tree pattern's second set {0,2} for roles {1}; ; 7: table 8 row 9: breaks rule 8; 7 3.4: 5\n\
-    a template's line {0,3}; ; 7: table 8 row 15: breaks rule 9; 6 0.3: 9\n\
-    a grant whose holders are {2}; ; 7: table 8 row 17: breaks rule 10; 2 0.2: 4\n\
-    a grant to enable role 3 by {1}; ; 7: table 8 row 17: breaks rule 11; 2 0.3: 3 | 8 17.4: 3\n\
-    a running job in roles {3}; ; 7: table 0 row 1: breaks rule 5; 0 count: 2 | 0 0: 0 2 5 | 0 1: 0 8 5\n\
-    a running job at a go by an empty slot; ; 7: table 0 row 0: breaks rule 6; 0 count: 1 | 0 0: 0 2 13\n\
+    a grant to disable the top; ; table 2 row 1 rule 1; 2 1.3: 0\n\
+    an edge {0,3}; ; table 5 row 1 rule 2; 5 1.2: 9\n\
+    {0} over {0,1}; ; table 5 row 1 rule 3; 5 0.2: 1\n\
+    a script of policy 1; ; table 5 row 7 rule 4; 5 7.4: 3\n\
+    a job in roles {3}; ; table 9 row 0 rule 5; 9 0.1: 8\n\
+    a go by a slot with a number; ; table 8 row 12 rule 6; 8 12.3: 0\n\
+    a path {0,2} for roles {1}; ; table 8 row 11 rule 7; 4 3.2: 5\n\
+    a tree pattern's second set {0,2} for roles {1}; ; table 8 row 9 rule 8; 7 3.4: 5\n\
+    a template's line {0,3}; ; table 8 row 15 rule 9; 6 0.3: 9\n\
+    a grant whose holders are {2}; ; table 8 row 17 rule 10; 2 0.2: 4\n\
+    a grant to enable role 3 by {1}; ; table 8 row 17 rule 11; 2 0.3: 3 | 8 17.4: 3\n\
+    a running job in roles {3}; ; table 0 row 1 rule 5; 0 count: 2 | 0 0: 0 2 5 | 0 1: 0 8 5\n\
+    a running job at a go by an empty slot; ; table 0 row 0 rule 6; 0 count: 1 | 0 0: 0 2 13\n\
     a script in a slot; ; nothing; 0 count: 1 | 0 0: 0 2 5 0 0 2 0\n\
-    a script of policy 1 in a slot; ; 7: table 0 row 0: breaks rule 12; 0 count: 1 | 0 0: 0 2 5 0 0 2 3\n\
-    a path overwritten with 99; ; 6: table 4 row 0: out of shape; 4 0: 99\n\
-    shape is told before the rules; ; 6: table 9 row 0: out of shape; 2 1.3: 0 | 9 0.2: 0\n\
-    the rules of jobs are told before running jobs; ; 7: table 9 row 0: breaks rule 5; 9 0.1: 8 | 0 count: 1 | 0 0: 0 8 5";
+    a script of policy 1 in a slot; ; table 0 row 0 rule 12; 0 count: 1 | 0 0: 0 2 5 0 0 2 3\n\
+    a path overwritten with 99; ; table 4 row 0 rule 0; 4 0: 99\n\
+    shape is told before the rules; ; table 9 row 0 rule 0; 2 1.3: 0 | 9 0.2: 0\n\
+    the rules of jobs are told before running jobs; ; table 9 row 0 rule 5; 9 0.1: 8 | 0 count: 1 | 0 0: 0 8 5";
 
 pub(crate) fn run(bench: &mut Bench<'_>) -> io::Result<()> {
     bench.judge_all(Call::Post, "", POSTS)?;
