@@ -6,7 +6,7 @@ use session::{Reply, Session};
 use std::io;
 use words::Sheet;
 
-const LINES: [&str; 89] = [
+const LINES: [&str; 97] = [
     "draw 31 0",
     "draw 32 0",
     "draw 0 31 0 32",
@@ -37,6 +37,14 @@ const LINES: [&str; 89] = [
     "draw 1 2",
     "order tanks",
     "step 0",
+    "march 0",
+    "post 0",
+    "post 0 0",
+    "step x",
+    "recall 0 0",
+    "show 0 0 {0}",
+    "show 0 0 0",
+    "audit 1",
     "list hex 01fF",
     "list hex 01f",
     "list hex 0g",
