@@ -1,8 +1,18 @@
 -- Bytes that are read pair by pair.
-use Rattle.std.proofs.Common.{◌≡◌, ℕ, ◌-◌, ◌≤◌, List, [], ◌∷◌, ◌++◌, length, get_or, take, drop, Some, None, Option, refl, ap, ◌∙◌, append_assoc, arith}
+use Rattle.std.proofs.Common.{◌≡◌, ℕ, ◌-◌, ◌%◌, ◌≤◌, List, [], ◌∷◌, ◌++◌, length, get_or, take, drop, Some, None, Option, sym, refl, ap, ◌∙◌, append_assoc, arith}
 use Rattle.std.specs.Option.{option_map}
 use Rattle.std.proofs.Math.Seq.{take-length}
 use Rattle.words.specs.Hex.{hex_byte, before, hex_bytes}
+
+before-none : (o : Option ℕ) → before o None ≡ None
+before-none None = refl
+before-none (Some b) = refl
+
+-- an odd number of digits spells none
+pub odd : (word : List ℕ) → (length word % 2 ≡ 0 → ⊥) → None ≡ hex_bytes word
+odd [] uneven = absurd (uneven refl)
+odd (high ∷ []) uneven = refl
+odd (high ∷ low ∷ digits) uneven = sym (ap (before (hex_byte high low)) (sym (odd digits (λ even. uneven (omega arith)))) ∙ before-none (hex_byte high low))
 
 -- bytes before others, if those are there
 abbrev pub onto : List ℕ → Option (List ℕ) → Option (List ℕ)

@@ -29,6 +29,10 @@ fn hex_byte(high: u8, low: u8) -> Option<u8>
 pub(crate) fn hex_bytes(heap: Global, word: &[u8]) -> Result<Option<Vec<u8>>, AllocError>
     ensures answer { IfOk result (λ read. option_map vec_items read ≡ hex_bytes word.now) }
 {
+    // An odd number of digits spells nothing, and asks for no memory.
+    if word.len() % 2 != 0 {
+        return Ok(None);
+    }
     let mut bytes = Vec::new(heap);
     let mut digits = word;
     while let [high, low, more @ ..] = digits {
